@@ -1,8 +1,7 @@
 //! Workloads with binary integers, and with length-prefixed records.
 #![tactic(auto, using(winnow::specs::Rules::ends_follow))]
 
-ghost use Rattle.winnow.specs.Claim.{no_claim, nothing_claimed};
-ghost use Rattle.winnow.specs.Covers.{AnyOutcome, no_terms};
+ghost use Rattle.winnow.specs.Terms.{AnyOutcome, meets_no_terms, no_terms};
 ghost use Rattle.std.specs.Prelude.{⊤};
 ghost use Rattle.winnow.specs.Bytes.{bytes_input, bytes_reading};
 ghost use Rattle.winnow.specs.Input.{IsEndOf};
@@ -74,11 +73,7 @@ impl<'i> Parser<&'i [u8], Record<'i>, ErrMode<EmptyError>> for RecordReader {
 
     ghost terms = { no_terms };
 
-    ghost claim = { λ _. no_claim };
-
-    ghost lawful = { λ never. absurd never };
-
-    ghost claimed = { λ _. nothing_claimed };
+    ghost lawful = { meets_no_terms };
 
     #[inline(always)]
     fn parse_next(&mut self, input: &mut &'i [u8]) -> Result<Record<'i>, ErrMode<EmptyError>> {

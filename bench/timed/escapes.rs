@@ -1,8 +1,7 @@
 //! Strings with escapes.
 #![tactic(auto, using(winnow::specs::Rules::ends_follow))]
 
-ghost use Rattle.winnow.specs.Claim.{no_claim, nothing_claimed};
-ghost use Rattle.winnow.specs.Covers.{AnyOutcome, no_terms};
+ghost use Rattle.winnow.specs.Terms.{AnyOutcome, meets_no_terms, no_terms};
 ghost use Rattle.std.specs.Prelude.{⊤};
 ghost use Rattle.winnow.specs.Input.{IsEndOf};
 ghost use Rattle.winnow.specs.Text.{text_input, text_reading};
@@ -68,11 +67,7 @@ impl<'i> Parser<&'i str, String, ErrMode<EmptyError>> for TextReader {
 
     ghost terms = { no_terms };
 
-    ghost claim = { λ _. no_claim };
-
-    ghost lawful = { λ never. absurd never };
-
-    ghost claimed = { λ _. nothing_claimed };
+    ghost lawful = { meets_no_terms };
 
     #[inline(always)]
     fn parse_next(&mut self, input: &mut &'i str) -> Result<String, ErrMode<EmptyError>> {

@@ -1,8 +1,7 @@
 //! Comma-separated values without quotes.
 #![tactic(auto, using(winnow::specs::Rules::ends_follow))]
 
-ghost use Rattle.winnow.specs.Claim.{no_claim, nothing_claimed};
-ghost use Rattle.winnow.specs.Covers.{AnyOutcome, no_terms};
+ghost use Rattle.winnow.specs.Terms.{AnyOutcome, meets_no_terms, no_terms};
 ghost use Rattle.std.specs.Prelude.{⊤};
 ghost use Rattle.winnow.specs.Text.{text_input, text_reading};
 ghost use Rattle.winnow.specs.Input.{IsEndOf};
@@ -66,11 +65,7 @@ impl<'i> Parser<&'i str, Row<'i>, ErrMode<InputError<&'i str>>> for RowReader {
 
     ghost terms = { no_terms };
 
-    ghost claim = { λ _. no_claim };
-
-    ghost lawful = { λ never. absurd never };
-
-    ghost claimed = { λ _. nothing_claimed };
+    ghost lawful = { meets_no_terms };
 
     #[inline(always)]
     fn parse_next(&mut self, input: &mut &'i str) -> Result<Row<'i>, ErrMode<InputError<&'i str>>> {

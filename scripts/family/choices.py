@@ -14,42 +14,16 @@ def product(first, rest):
     return "%s × %s" % (first, "(%s)" % rest if " × " in rest else rest)
 
 
-def place(n, k):
-    """Returns the projection of branch k of n from a state of pairs nested to the right."""
-    return ".1" * (k - 1) + (".0" if k < n else "")
-
-
-def of_branches(n, member):
-    """Returns the member `claim` or `claimed` of a choice between n branches."""
-    if n == 1:
-        return "P1.%s" % member
-    made = nested(
-        lambda k: "(P%d.%s s%s)" % (k, member, place(n, k)),
-        n,
-        lambda first, rest: "(or_else_%s %s %s)" % (member, first, rest),
-    )
-    return "λ s. %s" % made[1:-1]
-
-
 def definition(n):
-    """Returns the definition of a choice between n branches, when it is lawful and stable, which
-    outputs are equal, and the proofs."""
+    """Returns the definition of a choice between n branches, its terms, and the proof of them."""
     if n == 1:
-        return ["    ghost %s = { P1.%s };\n" % (it, it) for it in ("does", "terms", "lawful")]
+        return ["    ghost %s = { P1.%s };" % (it, it) for it in ("does", "terms", "lawful")]
 
-    def chosen(name, part):
-        return nested(part, n, lambda first, rest: "(%s %s %s)" % (name, first, rest))[1:-1]
+    def chosen(name, member):
+        return nested(lambda k: "P%d.%s" % (k, member), n, lambda first, rest: "(%s %s %s)" % (name, first, rest))[1:-1]
 
-    terms = ["    ghost terms = { record {"]
-    for it in ("premise", "stable"):
-        terms.append("      %s = %s;" % (it, nested(lambda k: "P%d.terms.%s" % (k, it), n, product)))
-    terms += ["      alike = %s;" % chosen("AlikeEither", lambda k: "P%d.terms.alike" % k), "    } };", ""]
-    lawful = chosen("alt_law", lambda k: "(P%d.lawful is%s)" % (k, place(n, k)))
-    return [
-        "    ghost does = { %s };\n" % chosen("AltDoes", lambda k: "P%d.does" % k),
-        "\n".join(terms),
-        "    ghost lawful = { λ is. %s };\n" % lawful,
-    ]
+    members = (("does", "AltDoes"), ("terms", "alt_terms"), ("lawful", "alt_meets"))
+    return ["    ghost %s = { %s };" % (it, chosen(name, it)) for it, name in members]
 
 
 def choice_impl(n):
@@ -65,11 +39,10 @@ def choice_impl(n):
         "    ghost state = { λ s. %s };" % state,
         "",
         does,
+        "",
         terms,
-        "    ghost claim = { %s };" % of_branches(n, "claim"),
         "",
         lawful,
-        "    ghost claimed = { %s };" % of_branches(n, "claimed"),
         "",
         "    #[inline(always)]",
         "    fn choice(&mut self, input: &mut I) -> Result<O, E> {",
@@ -89,9 +62,8 @@ def choice_impl(n):
 CHOICE_IMPLS = """//! Tuples as the branches of `alt`.
 //!
 //! {head}
-ghost use Rattle.parser_definitions.specs.Alt.{{AltDoes, alt_law}};
-ghost use Rattle.parser_definitions.specs.Equal.{{AlikeEither}};
-ghost use Rattle.parser_definitions.specs.Projects.Choices.{{or_else_claim, or_else_claimed}};
+ghost use Rattle.parser_definitions.specs.Alt.{{AltDoes}};
+ghost use Rattle.parser_definitions.specs.Projects.Choices.{{alt_meets, alt_terms}};
 
 use crate::combinator::impls::alt::{{Alt, attempt}};
 use stream_errors::parser_error::ParserError;

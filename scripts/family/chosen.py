@@ -1,6 +1,5 @@
 """The parsers of integers whose byte order is an argument, in `winnow_binary`."""
 from family.common import camel, documented, write
-from family.integer_claims import chosen_claims
 from family.integers import FAILS, IMPORTS, WIDTHS, Integer
 
 CHOSEN = "crates/winnow_binary/"
@@ -61,9 +60,8 @@ CHOSEN_STRUCT = (
 //!
 //! {head}
 
-ghost use Rattle.std.specs.Prelude.{{◌≡◌, ⊤}};
-ghost use Rattle.parser_definitions.specs.Integer.{{IntegerDoes, integer_law}};
-ghost use Rattle.parser_definitions.specs.Projects.Integers.{{integer_claim, integer_claimed}};
+ghost use Rattle.parser_definitions.specs.Integer.{{IntegerDoes}};
+ghost use Rattle.parser_definitions.specs.Projects.Integers.{{integer_meets, integer_terms}};
 ghost use Rattle.parser_definitions.specs.Projects.Integers.{{some_bytes}};
 ghost use Rattle.winnow_integers.specs.Integer.{{{value}}};
 ghost use Rattle.winnow_integers.specs.declared.binary.endianness.Endianness.{{Endianness}};
@@ -91,15 +89,11 @@ impl<I: StreamIsPartial + ByteStream, E: ParserError<I>> Parser<I, {type}, E> fo
 
     ghost state = {{ λ s. s.endian }};
 
-{does}
+    ghost does = {{ IntegerDoes {width} {by} I.reading }};
 
-{terms}
+    ghost terms = {{ integer_terms {width} {by} }};
 
-{claim}
-
-{lawful}
-
-{claimed}
+    ghost lawful = {{ integer_meets {width} {by} I.reading (some_bytes {below}) }};
 
     #[inline(always)]
     fn parse_next(&mut self, input: &mut I) -> Result<{type}, E> {{
@@ -122,5 +116,5 @@ def write_chosen():
         kind = camel(name)
         text = "%s in a byte order that is an argument." % (one.words()[0].upper() + one.words()[1:])
         parts = {"kind": kind, "own": kind + "<I, E>"}
-        parts |= chosen_claims(one) | vars(one)
+        parts |= {"by": one.value, "below": one.width - 1} | vars(one)
         write(CHOSEN + "src/binary/impls/%s.rt" % name, CHOSEN_STRUCT, about=text, name=name, row=row, number=number, **parts)

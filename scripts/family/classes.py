@@ -84,24 +84,13 @@ use streams::stream::StreamIsPartial;
 """
 
 
-def class_claims(is_member, least):
-    """Returns the claim of a parser of a class, and its proof."""
-    parts = "%s %d I.Token.code I.seen_as I.reading" % (is_member, least)
-    consumes, some = ("⊤", "(λ _. one_is_some)") if least else ("⊥", "(λ never. absurd never)")
-    return {
-        "claim": "    ghost claim = { λ s. class_claim %s %s };" % (consumes, parts),
-        "claimed": "    ghost claimed = { λ s. class_claimed %s %s };" % (parts, some),
-    }
-
-
 CLASS_STRUCT = """//! {about}
 //!
 //! {head}
 ghost use Rattle.std.specs.Prelude.{{⊤}};
 ghost use Rattle.stream_sets.specs.AsChar.{{{member}}};
-ghost use Rattle.parser_definitions.specs.Class.{{CharIsFunction, ClassDoes, class_law}};
-ghost use Rattle.parser_definitions.specs.Projects.Lines.{{class_claim, class_claimed{laws}}};
-ghost use Rattle.parser_definitions.specs.Spelled.{{ShowSame}};
+ghost use Rattle.parser_definitions.specs.Class.{{ClassDoes}};
+ghost use Rattle.parser_definitions.specs.Projects.Lines.{{class_meets, class_terms{laws}}};
 
 use crate::ascii::{call};
 use stream_errors::parser_error::ParserError;
@@ -127,13 +116,9 @@ where
 
     ghost does = {{ ClassDoes {member} {least} I.Token.code I.seen_as I.reading }};
 
-    ghost terms = {{ record {{ premise = CharIsFunction I.seen_as I.Token.code; stable = ⊤; alike = ShowSame I.reading }} }};
+    ghost terms = {{ class_terms {consumes} {member} {least} I.Token.code I.seen_as I.reading }};
 
-{claim}
-
-    ghost lawful = {{ λ is. class_law {member} {least} I.Token.code I.seen_as I.reading is }};
-
-{claimed}
+    ghost lawful = {{ class_meets {member} {least} I.Token.code I.seen_as I.reading {some} }};
 
     #[inline(always)]
     fn parse_next(&mut self, input: &mut I) -> Result<I::Slice, E> {{
@@ -156,6 +141,7 @@ def write_classes():
         about = "%s %s." % ("One or more" if least else "Zero or more", members)
         blocks = {
             "laws": ", one_is_some" if least else "",
-            **class_claims(is_member, least),
+            "consumes": "⊤" if least else "⊥",
+            "some": "(λ _. one_is_some)" if least else "(λ never. absurd never)",
         }
         write(ascii_crate + "src/ascii/impls/%s.rt" % call, CLASS_STRUCT, about=about, **blocks, call=call, kind=camel(call), member=is_member, least=least, front=front, rest=rest)

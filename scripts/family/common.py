@@ -48,10 +48,27 @@ def block(parameters, trait, kind, where, members):
     return "\n".join(lines + [members, "}"])
 
 
-def record(name, fields):
-    """Returns a ghost member that maps the state to a record of these fields."""
-    lines = ["      %s = %s;" % field for field in fields.items()]
-    return "\n".join(["    ghost %s = { λ s. record {" % name, *lines, "    } };"])
+def record(fields, depth=1):
+    """Returns a record of these fields, at a depth of ghost members."""
+    space = "    " + "  " * depth
+    lines = ["%s%s = %s;" % (space, *field) for field in fields.items()]
+    return "\n".join(["record {", *lines, space[2:] + "}"])
+
+
+def by_state(fields):
+    """Returns a function from the state to a record of these fields, for a field of a ghost member."""
+    return "λ s. " + record(fields, 2)
+
+
+def terms(premise, stable, alike, claim):
+    """Returns the terms of a definition."""
+    fields = {"premise": premise, "stable": stable, "alike": alike, "claim": claim}
+    return "    ghost terms = { %s };" % record(fields)
+
+
+def meets(law, claimed):
+    """Returns the proof that a definition meets its terms."""
+    return "    ghost lawful = { %s };" % record({"law": law, "claimed": claimed})
 
 
 def documented(text):

@@ -1,6 +1,5 @@
 """The parsers of integers as bytes, in the crate `winnow_integers`."""
 from family.common import camel, documented, write
-from family.integer_claims import fixed_claims
 
 FIXED = "crates/winnow_integers/"
 WIDTHS = {8: 1, 16: 2, 24: 3, 32: 4, 64: 8, 128: 16}
@@ -134,9 +133,9 @@ STRUCT = (
     """//! {about}
 //!
 //! {head}
-ghost use Rattle.std.specs.Prelude.{{◌≡◌, ⊤}};
-ghost use Rattle.parser_definitions.specs.Integer.{{IntegerDoes, integer_law}};
-ghost use Rattle.parser_definitions.specs.Projects.Integers.{{integer_claim, integer_claimed}};
+ghost use Rattle.std.specs.Prelude.{{⊤}};
+ghost use Rattle.parser_definitions.specs.Integer.{{IntegerDoes}};
+ghost use Rattle.parser_definitions.specs.Projects.Integers.{{integer_meets, integer_terms}};
 ghost use Rattle.parser_definitions.specs.Projects.Integers.{{some_bytes}};
 ghost use Rattle.winnow_integers.specs.Integer.{{{value}}};
 ghost use Rattle.winnow_integers.specs.declared.binary.endianness.Endianness.TheVariants.{{{constructor}}};
@@ -159,15 +158,11 @@ impl<I: StreamIsPartial + ByteStream, E: ParserError<I>> Parser<I, {type}, E> fo
 
     ghost state = {{ λ _. tt }};
 
-{does}
+    ghost does = {{ IntegerDoes {width} {by} I.reading }};
 
-{terms}
+    ghost terms = {{ integer_terms {width} {by} }};
 
-{claim}
-
-{lawful}
-
-{claimed}
+    ghost lawful = {{ integer_meets {width} {by} I.reading (some_bytes {below}) }};
 
     #[inline(always)]
     fn parse_next(&mut self, input: &mut I) -> Result<{type}, E> {{
@@ -246,7 +241,7 @@ def write_fixed():
         row, number = one.sample()
         own = camel(name)
         parts = {"own": own}
-        parts |= fixed_claims(one) | vars(one)
+        parts |= {"by": "(λ (_ : ⊤). %s %s)" % (one.value, one.constructor), "below": one.width - 1} | vars(one)
         text = about(one)[0].upper() + about(one)[1:] + "."
         write(FIXED + "src/binary/impls/%s.rt" % name, STRUCT, about=text, name=name, row=row, number=number, **parts)
         if one.bits not in (8, 24):

@@ -2,7 +2,7 @@
 import re
 
 from family.common import MOST, NEVER_TAKES, ORDINAL
-from family.common import conjunction, record, rust_tuple, tuple_type, tuple_value, upto, write
+from family.common import by_state, conjunction, meets, rust_tuple, terms, tuple_type, tuple_value, upto, write
 
 
 def numbered(form, n):
@@ -28,50 +28,41 @@ def law_of(n, two, three, last):
 
 def claim(n):
     """Returns the claim of a tuple of n, computed from those of its members."""
-    small = (name + " %s %s" % (whole(k), spaced("(P#.claim s.@)", k)) for k, name in ((2, "both_claim"), (3, "three_claim")))
-    return law_of(n, *small, "both_claim join{n} ({front}) (P{n}.claim s.{at})")
+    small = (name + " %s %s" % (whole(k), spaced("(P#.terms.claim s.@)", k)) for k, name in ((2, "both_claim"), (3, "three_claim")))
+    return law_of(n, *small, "both_claim join{n} ({front}) (P{n}.terms.claim s.{at})")
 
 
 def claimed(n):
     """Returns the proof that a tuple of n satisfies its claim if its members satisfy theirs."""
-    small = (name + " %s %s" % (whole(k), spaced("(P#.claimed s.@)", k)) for k, name in ((2, "both_claimed"), (3, "three_claimed")))
-    return law_of(n, *small, "joined_claimed join{n} split{n} join{n} refl ({front}) (P{n}.claimed s.{at})")
+    small = (name + " %s %s" % (whole(k), spaced("(P#.lawful.claimed s.@)", k)) for k, name in ((2, "both_claimed"), (3, "three_claimed")))
+    return law_of(n, *small, "joined_claimed join{n} split{n} join{n} refl ({front}) (P{n}.lawful.claimed s.{at})")
 
 
 # The claims of tuples of no members and of one.
-NOTHING_CLAIMS = {
-    "claim": record(
-        "claim",
+NOTHING_CLAIMS = (
+    by_state(
         {
             "premise": "⊤",
             "backtracks": "⊤",
             "spares_memory": "⊤",
             "consumes": "⊥",
             "grammar": "Nothing tt",
-        },
+        }
     ),
-    "claimed": record(
-        "claimed",
+    by_state({"projects": "λ at is. empty_projects", "takes": NEVER_TAKES}),
+)
+ONE_CLAIMS = (
+    by_state(
+        {it: "(P1.terms.claim s.0).%s" % it for it in ("premise", "backtracks", "spares_memory", "consumes")}
+        | {"grammar": "Made OneTuple tt (P1.terms.claim s.0).grammar"}
+    ),
+    by_state(
         {
-            "projects": "λ at is. empty_projects",
-            "takes": NEVER_TAKES,
-        },
+            "projects": "λ at is. one_projects ((P1.lawful.claimed s.0).projects at is)",
+            "takes": "λ is some. made_of_takes OneTuple tt ((P1.lawful.claimed s.0).takes is some)",
+        }
     ),
-}
-ONE_CLAIMS = {
-    "claim": record(
-        "claim",
-        {it: "(P1.claim s.0).%s" % it for it in ("premise", "backtracks", "spares_memory", "consumes")}
-        | {"grammar": "Made OneTuple tt (P1.claim s.0).grammar"},
-    ),
-    "claimed": record(
-        "claimed",
-        {
-            "projects": "λ at is. one_projects ((P1.claimed s.0).projects at is)",
-            "takes": "λ is some. made_of_takes OneTuple tt ((P1.claimed s.0).takes is some)",
-        },
-    ),
-}
+)
 
 
 # For one to six members: the equality of outputs, and the law.
@@ -84,32 +75,19 @@ def stable(n):
     return conjunction(numbered("P#.terms.stable", n)) if n < 4 else "(%s) × P%d.terms.stable" % (stable(n - 1), n)
 
 
-def terms(premise, stable, alike):
-    lines = ["      %s = %s;" % it for it in {"premise": premise, "stable": stable, "alike": alike}.items()]
-    return "\n".join(["    ghost terms = { record {", *lines, "    } };"])
-
-
 def definition(n):
-    """Returns the ghost members of a tuple of n parsers for its definition."""
+    """Returns the ghost members of a tuple of n parsers beside its state."""
     given = "is" if n == 1 else "is.@"
     children = spaced("P#.does", n)
     does = "BothDo %s %s" % (whole(2), children) if n == 2 else "SequenceDoes%d %s" % (n, children)
-    return {
-        "does": "    ghost does = { %s };" % does,
-        "terms": terms(conjunction(numbered("P#.terms.premise", n)), stable(n), "%s %s" % (ALIKE[n - 1], spaced("P#.terms.alike", n))),
-        "lawful": "    ghost lawful = { λ is. %s %s };" % (LAW[n - 1], spaced("(P#.lawful %s)" % given, n)),
-    }
-
-
-def laws(n):
-    """Returns the ghost members of a tuple of n parsers beside its state."""
-    texts = {}
-    if n == 1:
-        texts |= ONE_CLAIMS
-    else:
-        texts |= {it: "    ghost %s = { λ s. %s };" % (it, text) for it, text in (("claim", claim(n)), ("claimed", claimed(n)))}
-    texts |= definition(n)
-    return [texts[it] for it in ("does", "terms", "claim", "lawful", "claimed")]
+    alike = "%s %s" % (ALIKE[n - 1], spaced("P#.terms.alike", n))
+    claim_, claimed_ = ONE_CLAIMS if n == 1 else ("λ s. " + claim(n), "λ s. " + claimed(n))
+    law = "λ is. %s %s" % (LAW[n - 1], spaced("(P#.lawful.law %s)" % given, n))
+    return [
+        "    ghost does = { %s };" % does,
+        terms(conjunction(numbered("P#.terms.premise", n)), stable(n), alike, claim_),
+        meets(law, claimed_),
+    ]
 
 
 def output_name(n, k):
@@ -130,7 +108,7 @@ def sequence_impl(n):
         "",
         "    ghost state = { λ s. %s };" % tuple_value(numbered("P#.state s.@", n)),
         "",
-        *("%s\n" % member for member in laws(n)),
+        *("%s\n" % member for member in definition(n)),
         "    #[inline(always)]",
         "    fn parse_next(&mut self, input: &mut I) -> Result<%s, E> {" % outputs,
     ]
@@ -171,13 +149,9 @@ impl<I: Stream, E: ParserError<I>> Parser<I, (), E> for () {{
 
     ghost does = {{ SequenceDoes0 }};
 
-{nothing_terms}
+{terms}
 
-{nothing_claim}
-
-    ghost lawful = {{ λ is. empty_law }};
-
-{nothing_claimed}
+{lawful}
 
     #[inline(always)]
     fn parse_next(&mut self, _input: &mut I) -> Result<(), E> {{
@@ -287,9 +261,8 @@ def write_blocks(path, which, mods, blocks):
 def write_sequences():
     core = "crates/winnow_core/"
     nothing = NOTHING.format(
-        nothing_terms=terms("⊤", "⊤", "λ o p. ⊤"),
-        nothing_claim=NOTHING_CLAIMS["claim"],
-        nothing_claimed=NOTHING_CLAIMS["claimed"],
+        terms=terms("⊤", "⊤", "λ o p. ⊤", NOTHING_CLAIMS[0]),
+        lawful=meets("λ is. empty_law", NOTHING_CLAIMS[1]),
     )
     short = [nothing] + [sequence_impl(n) + "\n" for n in upto(LONG - 1)]
     write_blocks(core + "src/parser/tuples.rt", "", "\nmod long;\n", "\n".join(short))

@@ -1,7 +1,6 @@
 //! Compositions as parsers: at each node the library's own combinator runs, over references to the
 //! parts.
-ghost use Rattle.parser_definitions.specs.Claim.{no_claim, nothing_claimed};
-ghost use Rattle.winnow_core.specs.Covers.{AnyOutcome, no_terms};
+ghost use Rattle.parser_definitions.specs.Terms.{AnyOutcome, meets_no_terms, no_terms};
 ghost use Rattle.std.specs.Prelude.{⊤};
 
 use crate::closures::{LENGTHS, decided, folded, is_accepted, made, made_if_accepted, said};
@@ -30,11 +29,7 @@ impl<'i, I: Bytes<'i>> Parser<I, Shown, Modal> for Tree {
 
     ghost terms = { no_terms };
 
-    ghost claim = { λ _. no_claim };
-
-    ghost lawful = { λ never. absurd never };
-
-    ghost claimed = { λ _. nothing_claimed };
+    ghost lawful = { meets_no_terms };
 
     fn parse_next(&mut self, input: &mut I) -> Result<Shown, Modal> {
         match self {

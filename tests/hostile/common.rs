@@ -1,6 +1,5 @@
 //! Common helpers: a child that counts its calls, and a child with a plan.
-ghost use Rattle.parser_definitions.specs.Claim.{no_claim, nothing_claimed};
-ghost use Rattle.winnow_core.specs.Covers.{AnyOutcome, no_terms};
+ghost use Rattle.parser_definitions.specs.Terms.{AnyOutcome, meets_no_terms, no_terms};
 ghost use Rattle.std.specs.Prelude.{⊤};
 
 use std::cell::Cell;
@@ -37,11 +36,7 @@ impl<I: Stream, O, E: ParserError<I>, P: Parser<I, O, E>> Parser<I, O, E> for Co
 
     ghost terms = { no_terms };
 
-    ghost claim = { λ _. no_claim };
-
-    ghost lawful = { λ never. absurd never };
-
-    ghost claimed = { λ _. nothing_claimed };
+    ghost lawful = { meets_no_terms };
 
     fn parse_next(&mut self, input: &mut I) -> Result<O, E> {
         self.runs.set(self.runs.get() + 1);
@@ -104,11 +99,7 @@ impl<I: Stream, E: ParserError<I>> Parser<I, usize, E> for Planned {
 
     ghost terms = { no_terms };
 
-    ghost claim = { λ _. no_claim };
-
-    ghost lawful = { λ never. absurd never };
-
-    ghost claimed = { λ _. nothing_claimed };
+    ghost lawful = { meets_no_terms };
 
     fn parse_next(&mut self, input: &mut I) -> Result<usize, E> {
         let number = self.next;

@@ -1,6 +1,5 @@
 //! A parser that fails.
-ghost use Rattle.parser_definitions.specs.Claim.{no_claim, nothing_claimed};
-ghost use Rattle.winnow_core.specs.Covers.{AnyOutcome, no_terms};
+ghost use Rattle.parser_definitions.specs.Terms.{AnyOutcome, meets_no_terms, no_terms};
 ghost use Rattle.std.specs.Prelude.{⊤};
 
 use crate::outcomes::Kind;
@@ -23,11 +22,7 @@ impl<I: Stream, E: ParserError<I>> Parser<I, u8, E> for Failing {
 
     ghost terms = { no_terms };
 
-    ghost claim = { λ _. no_claim };
-
-    ghost lawful = { λ never. absurd never };
-
-    ghost claimed = { λ _. nothing_claimed };
+    ghost lawful = { meets_no_terms };
 
     fn parse_next(&mut self, input: &mut I) -> Result<u8, E> {
         let _token = input.next_token();

@@ -2,7 +2,7 @@
 //! contract.
 #![tactic(auto, using(streams::specs::Ends::ends_follow))]
 
-ghost use Rattle.parser_definitions.specs.Claim.{no_claim, nothing_claimed};
+ghost use Rattle.parser_definitions.specs.Terms.{meets_no_terms, no_terms};
 ghost use Rattle.std.specs.Prelude.{⊤, ◌≡◌, ◌⊎◌, IfErr, pos};
 ghost use Rattle.streams.specs.Bytes.{bytes_input, bytes_reading};
 ghost use Rattle.streams.specs.Input.{IsEndOf};
@@ -12,7 +12,6 @@ ghost use Rattle.winnow_expression_trees.specs.Items.{Gives, ItemDoes, ReadsItem
 ghost use Rattle.winnow_expression_trees.specs.Items.Premises.{gives_ends};
 ghost use Rattle.example_booleans.specs.Booleans.{ByteItem, LacksOperand, infix_at, logic_value};
 ghost use Rattle.example_booleans.specs.Booleans.{not_value, operand_at, postfix_at, prefix_at};
-ghost use Rattle.winnow_core.specs.Covers.{no_terms};
 
 use std::alloc::Allocator;
 use stream_errors::empty::EmptyError;
@@ -127,11 +126,7 @@ impl<'i> Parser<&'i [u8], bool, EmptyError> for Part {
 
     ghost terms = { no_terms };
 
-    ghost claim = { λ _. no_claim };
-
-    ghost lawful = { λ never. absurd never };
-
-    ghost claimed = { λ _. nothing_claimed };
+    ghost lawful = { meets_no_terms };
 
     fn parse_next(&mut self, input: &mut &'i [u8]) -> Result<bool, EmptyError> {
         let start = *input;
@@ -157,11 +152,7 @@ impl<'i> Parser<&'i [u8], Prefix<Not>, EmptyError> for Part {
 
     ghost terms = { no_terms };
 
-    ghost claim = { λ _. no_claim };
-
-    ghost lawful = { λ never. absurd never };
-
-    ghost claimed = { λ _. nothing_claimed };
+    ghost lawful = { meets_no_terms };
 
     fn parse_next(&mut self, input: &mut &'i [u8]) -> Result<Prefix<Not>, EmptyError> {
         let start = *input;
@@ -187,11 +178,7 @@ impl<'i> Parser<&'i [u8], Postfix<Not>, EmptyError> for Part {
 
     ghost terms = { no_terms };
 
-    ghost claim = { λ _. no_claim };
-
-    ghost lawful = { λ never. absurd never };
-
-    ghost claimed = { λ _. nothing_claimed };
+    ghost lawful = { meets_no_terms };
 
     fn parse_next(&mut self, input: &mut &'i [u8]) -> Result<Postfix<Not>, EmptyError> {
         let start = *input;
@@ -217,11 +204,7 @@ impl<'i> Parser<&'i [u8], Infix<Logic>, EmptyError> for Part {
 
     ghost terms = { no_terms };
 
-    ghost claim = { λ _. no_claim };
-
-    ghost lawful = { λ never. absurd never };
-
-    ghost claimed = { λ _. nothing_claimed };
+    ghost lawful = { meets_no_terms };
 
     fn parse_next(&mut self, input: &mut &'i [u8]) -> Result<Infix<Logic>, EmptyError> {
         let start = *input;

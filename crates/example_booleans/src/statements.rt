@@ -53,9 +53,10 @@ where
     B: Parser<I, u8, E> + Drop,
     requires callable { F.IsAlwaysCallable run }
     requires reads { CallsRead I.reading I.view E.kind (CalledAtMut F.FnMut) (R.grammar rule) run }
-    requires end { B.can_parse end × (B.claim (B.state end)).premise
-        × (B.claim (B.state end)).backtracks }
-    ensures { Reads I.reading E.kind (IsEnded (R.grammar rule) (B.claim (B.state end)).grammar)
+    requires end { B.can_parse end × (B.terms.claim (B.state end)).premise
+        × (B.terms.claim (B.state end)).backtracks }
+    ensures { Reads I.reading E.kind
+        (IsEnded (R.grammar rule) (B.terms.claim (B.state end)).grammar)
         (I.view input.old) result (I.view input.new) }
 {
     terminated(rule.by(run), end).read(input)

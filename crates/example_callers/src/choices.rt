@@ -37,10 +37,10 @@ pub fn read_among<P: Parser<I, O, E>, I: Stream, O, E: ParserError<I>>(
     input: &mut I,
 ) -> Result<O, E>
     requires callable { All P.can_parse branches.old }
-    requires known { All (λ s. (P.claim s).premise × (P.claim s).backtracks)
+    requires known { All (λ s. (P.terms.claim s).premise × (P.terms.claim s).backtracks)
         (map P.state branches.old) }
     requires some { map P.state branches.old ≡ [] → ⊥ }
-    ensures { Reads I.reading E.kind (FirstOf (λ s. (P.claim s).grammar)
+    ensures { Reads I.reading E.kind (FirstOf (λ s. (P.terms.claim s).grammar)
         (map P.state branches.old)) (I.view input.old) result (I.view input.new) }
 {
     alt(&mut *branches).read(input)

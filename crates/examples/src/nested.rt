@@ -6,7 +6,7 @@ ghost use Rattle.std.specs.Prelude.{◌≡◌, ◌⊎◌, ◌<◌, false, IsTrue
 ghost use Rattle.winnow.specs.Bytes.{bytes_input, bytes_reading};
 ghost use Rattle.examples.specs.Nested.Trees.{AreElements, IsLeaf, IsTree, Opens, no_memory_kind};
 ghost use Rattle.examples.specs.Nested.Trees.{tree_takes, tree_unique};
-ghost use Rattle.winnow.specs.Claim.{CanRead};
+ghost use Rattle.winnow.specs.Terms.{CanRead};
 ghost use Rattle.winnow.specs.Exact.{Reads};
 ghost use Rattle.winnow.specs.Rule.{CallsRead};
 ghost use Rattle.winnow.specs.Texts.{NotFirst};
@@ -63,13 +63,13 @@ where
     requires callable { F.IsAlwaysCallable element }
     requires reads { CallsRead I.reading I.view E.kind (CalledAtMut F.FnMut) (R.grammar rule)
         element }
-    requires opening { CanRead (B.can_parse opening) (B.claim (B.state opening)) }
-    requires comma { CanRead (B.can_parse comma) (B.claim (B.state comma))
-        × (B.claim (B.state comma)).consumes }
-    requires closing { CanRead (B.can_parse closing) (B.claim (B.state closing)) }
+    requires opening { CanRead (B.can_parse opening) (B.terms.claim (B.state opening)) }
+    requires comma { CanRead (B.can_parse comma) (B.terms.claim (B.state comma))
+        × (B.terms.claim (B.state comma)).consumes }
+    requires closing { CanRead (B.can_parse closing) (B.terms.claim (B.state closing)) }
     ensures { Reads I.reading E.kind
-        (AreElements (R.grammar rule) (B.claim (B.state opening)).grammar
-        (B.claim (B.state comma)).grammar (B.claim (B.state closing)).grammar)
+        (AreElements (R.grammar rule) (B.terms.claim (B.state opening)).grammar
+        (B.terms.claim (B.state comma)).grammar (B.terms.claim (B.state closing)).grammar)
         (I.view input.old) result (I.view input.new) }
 {
     let elements: Separated<By<R, F>, B, I, O, u8, Vec<O, A>, E, A> = separated(

@@ -1,7 +1,7 @@
 //! Sequences of labels.
 ghost use Rattle.format_dns.specs.Names.{IsLabel, IsString};
 ghost use Rattle.std.specs.Prelude.{◌≡◌, Some};
-ghost use Rattle.parser_definitions.specs.Claim.{CanRead};
+ghost use Rattle.parser_definitions.specs.Terms.{CanRead};
 ghost use Rattle.stream_sets.specs.Range.{from_to};
 ghost use Rattle.streams.specs.Bytes.{bytes_input, bytes_reading};
 ghost use Rattle.winnow_core.specs.Exact.{Reads};
@@ -33,12 +33,12 @@ where
     N: ToUsize + Drop,
     P: Parser<I, N, E> + Drop,
     A: Allocator + Copy,
-    requires count { CanRead (P.can_parse count) (P.claim (P.state count))
-        × (P.claim (P.state count)).consumes }
-    requires says { SaysOne N.number (P.claim (P.state count)).grammar }
+    requires count { CanRead (P.can_parse count) (P.terms.claim (P.state count))
+        × (P.terms.claim (P.state count)).consumes }
+    requires says { SaysOne N.number (P.terms.claim (P.state count)).grammar }
     ensures { Reads I.reading E.kind
         (Gathered (λ list parts. list.items ≡ parts)
-        (Many (Sized N.number (Counted I.reading) (P.claim (P.state count)).grammar)
+        (Many (Sized N.number (Counted I.reading) (P.terms.claim (P.state count)).grammar)
         (from_to 0 (Some most)))) (I.view input.old) result (I.view input.new) }
 {
     repeat(alloc, ..=most, length_take(count)).read(input)

@@ -5,7 +5,7 @@ ghost use Rattle.format_parts.specs.Words.{former, latter};
 ghost use Rattle.format_json_values.specs.Pairs.{Pair};
 ghost use Rattle.std.specs.Fn.{CalledAtMut};
 ghost use Rattle.std.specs.Prelude.{◌≡◌, false};
-ghost use Rattle.parser_definitions.specs.Claim.{CanRead};
+ghost use Rattle.parser_definitions.specs.Terms.{CanRead};
 ghost use Rattle.winnow_core.specs.Exact.{IsSpared, Reads};
 ghost use Rattle.winnow_core.specs.Exact.Whole.{ReadsAll};
 ghost use Rattle.grammars.specs.Grammar.{Both, NoMatch};
@@ -53,27 +53,28 @@ where
     requires callable { F.IsAlwaysCallable value }
     requires reads { CallsRead I.reading I.view E.kind (CalledAtMut F.FnMut) (R.grammar rule)
         value }
-    requires colon { CanRead (B.can_parse colon) (B.claim (B.state colon)) }
-    requires opening { CanRead (B.can_parse marks.opening) (B.claim (B.state marks.opening)) }
-    requires comma { CanRead (B.can_parse marks.comma) (B.claim (B.state marks.comma))
-        × (B.claim (B.state marks.comma)).consumes }
-    requires closing { CanRead (B.can_parse marks.closing) (B.claim (B.state marks.closing)) }
-    requires gap { CanRead (G.can_parse marks.gap) (G.claim (G.state marks.gap)) }
+    requires colon { CanRead (B.can_parse colon) (B.terms.claim (B.state colon)) }
+    requires opening { CanRead (B.can_parse marks.opening) (B.terms.claim (B.state marks.opening)) }
+    requires comma { CanRead (B.can_parse marks.comma) (B.terms.claim (B.state marks.comma))
+        × (B.terms.claim (B.state marks.comma)).consumes }
+    requires closing { CanRead (B.can_parse marks.closing) (B.terms.claim (B.state marks.closing)) }
+    requires gap { CanRead (G.can_parse marks.gap) (G.terms.claim (G.state marks.gap)) }
     ensures reads { Reads I.reading E.kind
-        (Items (Pair (S.grammar names) (B.claim (B.state colon)).grammar (R.grammar rule)
-        (G.claim (G.state marks.gap)).grammar) (B.claim (B.state marks.opening)).grammar
-        (B.claim (B.state marks.comma)).grammar (B.claim (B.state marks.closing)).grammar
-        (G.claim (G.state marks.gap)).grammar) (I.view input.old) result
+        (Items (Pair (S.grammar names) (B.terms.claim (B.state colon)).grammar (R.grammar rule)
+        (G.terms.claim (G.state marks.gap)).grammar) (B.terms.claim (B.state marks.opening)).grammar
+        (B.terms.claim (B.state marks.comma)).grammar
+        (B.terms.claim (B.state marks.closing)).grammar
+        (G.terms.claim (G.state marks.gap)).grammar) (I.view input.old) result
         (I.view input.new) }
     ensures spared { CallsSpared I.view E.kind (CalledAtMut H.FnMut) name
         → CallsSpared I.view E.kind (CalledAtMut F.FnMut) value
-        → (B.claim (B.state colon)).spares_memory
-        → (B.claim (B.state marks.opening)).spares_memory
-        → (B.claim (B.state marks.closing)).spares_memory
-        → (G.claim (G.state marks.gap)).spares_memory
-        → NoMatch (FirstItem (Pair (S.grammar names) (B.claim (B.state colon)).grammar
-        (R.grammar rule) (G.claim (G.state marks.gap)).grammar)
-        (B.claim (B.state marks.opening)).grammar (G.claim (G.state marks.gap)).grammar)
+        → (B.terms.claim (B.state colon)).spares_memory
+        → (B.terms.claim (B.state marks.opening)).spares_memory
+        → (B.terms.claim (B.state marks.closing)).spares_memory
+        → (G.terms.claim (G.state marks.gap)).spares_memory
+        → NoMatch (FirstItem (Pair (S.grammar names) (B.terms.claim (B.state colon)).grammar
+        (R.grammar rule) (G.terms.claim (G.state marks.gap)).grammar)
+        (B.terms.claim (B.state marks.opening)).grammar (G.terms.claim (G.state marks.gap)).grammar)
         (I.view input.old).left.tokens → IsSpared E.kind (I.view input.old) result }
 {
     let name = terminated(names.by(name), marks.gap);
@@ -100,11 +101,11 @@ where
     requires callable { F.IsAlwaysCallable value }
     requires reads { CallsRead I.reading I.view E.kind (CalledAtMut F.FnMut) (R.grammar rule)
         value }
-    requires gap { G.can_parse gap × (G.claim (G.state gap)).premise }
+    requires gap { G.can_parse gap × (G.terms.claim (G.state gap)).premise }
     requires whole { I.supports_partial ≡ false }
     ensures { ReadsAll E.inner_kind
-        (Both latter (G.claim (G.state gap)).grammar
-        (Both former (R.grammar rule) (G.claim (G.state gap)).grammar))
+        (Both latter (G.terms.claim (G.state gap)).grammar
+        (Both former (R.grammar rule) (G.terms.claim (G.state gap)).grammar))
         (I.view input).left.tokens result }
 {
     preceded(gap, terminated(rule.by(value), gap)).read_all(input)

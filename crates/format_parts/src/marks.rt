@@ -4,7 +4,7 @@ ghost use Rattle.format_parts.specs.Marks.{FirstItem, Items, ItemsRan};
 ghost use Rattle.format_parts.specs.Words.{former};
 ghost use Rattle.std.specs.Fn.{CalledAtMut};
 ghost use Rattle.stream_errors.specs.Form.{answer_by};
-ghost use Rattle.parser_definitions.specs.Claim.{CanRead};
+ghost use Rattle.parser_definitions.specs.Terms.{CanRead};
 ghost use Rattle.parser_definitions.specs.Does.{Ran};
 ghost use Rattle.parser_definitions.specs.Func.{ByDoes};
 ghost use Rattle.parser_definitions.specs.Sequence.{DelimitedDoes, TerminatedDoes};
@@ -38,19 +38,20 @@ where
     P: Parser<I, O1, E> + Drop,
     Q: Parser<I, O2, E> + Drop,
     R: Parser<I, O3, E> + Drop,
-    requires first { CanRead (P.can_parse first) (P.claim (P.state first)) }
-    requires second { CanRead (Q.can_parse second) (Q.claim (Q.state second)) }
-    requires third { CanRead (R.can_parse third) (R.claim (R.state third)) }
+    requires first { CanRead (P.can_parse first) (P.terms.claim (P.state first)) }
+    requires second { CanRead (Q.can_parse second) (Q.terms.claim (Q.state second)) }
+    requires third { CanRead (R.can_parse third) (R.terms.claim (R.state third)) }
     ensures ran { (t : P.State × Q.State × R.State)
         × Ran I.reading (DelimitedDoes P.does Q.does R.does) E.form
         (P.state first, Q.state second, R.state third) (I.view input.old)
         (answer_by E.kind result) t (I.view input.new) }
     ensures reads { Reads I.reading E.kind
-        (Three (λ _ o _. o) (P.claim (P.state first)).grammar
-        (Q.claim (Q.state second)).grammar (R.claim (R.state third)).grammar)
+        (Three (λ _ o _. o) (P.terms.claim (P.state first)).grammar
+        (Q.terms.claim (Q.state second)).grammar (R.terms.claim (R.state third)).grammar)
         (I.view input.old) result (I.view input.new) }
-    ensures spared { (P.claim (P.state first)).spares_memory
-        → (Q.claim (Q.state second)).spares_memory → (R.claim (R.state third)).spares_memory
+    ensures spared { (P.terms.claim (P.state first)).spares_memory
+        → (Q.terms.claim (Q.state second)).spares_memory
+        → (R.terms.claim (R.state third)).spares_memory
         → IsSpared E.kind (I.view input.old) result }
 {
     delimited(first, second, third).read(input)
@@ -88,12 +89,12 @@ where
     P: Parser<I, O, E> + Drop,
     B: Parser<I, M, E> + Copy + Drop,
     G: Parser<I, W, E> + Copy + Drop,
-    requires item { CanRead (P.can_parse item) (P.claim (P.state item)) }
-    requires opening { CanRead (B.can_parse marks.opening) (B.claim (B.state marks.opening)) }
-    requires comma { CanRead (B.can_parse marks.comma) (B.claim (B.state marks.comma))
-        × (B.claim (B.state marks.comma)).consumes }
-    requires closing { CanRead (B.can_parse marks.closing) (B.claim (B.state marks.closing)) }
-    requires gap { CanRead (G.can_parse marks.gap) (G.claim (G.state marks.gap)) }
+    requires item { CanRead (P.can_parse item) (P.terms.claim (P.state item)) }
+    requires opening { CanRead (B.can_parse marks.opening) (B.terms.claim (B.state marks.opening)) }
+    requires comma { CanRead (B.can_parse marks.comma) (B.terms.claim (B.state marks.comma))
+        × (B.terms.claim (B.state marks.comma)).consumes }
+    requires closing { CanRead (B.can_parse marks.closing) (B.terms.claim (B.state marks.closing)) }
+    requires gap { CanRead (G.can_parse marks.gap) (G.terms.claim (G.state marks.gap)) }
     ensures ran { ItemsRan I.reading E.form P.does B.does G.does (
       P.state item,
       B.state marks.opening,
@@ -102,16 +103,18 @@ where
       G.state marks.gap,
     ) (I.view input.old) (answer_by E.kind result) (I.view input.new) }
     ensures reads { Reads I.reading E.kind
-        (Items (P.claim (P.state item)).grammar (B.claim (B.state marks.opening)).grammar
-        (B.claim (B.state marks.comma)).grammar (B.claim (B.state marks.closing)).grammar
-        (G.claim (G.state marks.gap)).grammar) (I.view input.old) result
+        (Items (P.terms.claim (P.state item)).grammar
+        (B.terms.claim (B.state marks.opening)).grammar
+        (B.terms.claim (B.state marks.comma)).grammar
+        (B.terms.claim (B.state marks.closing)).grammar
+        (G.terms.claim (G.state marks.gap)).grammar) (I.view input.old) result
         (I.view input.new) }
-    ensures spared { (P.claim (P.state item)).spares_memory
-        → (B.claim (B.state marks.opening)).spares_memory
-        → (B.claim (B.state marks.closing)).spares_memory
-        → (G.claim (G.state marks.gap)).spares_memory
-        → NoMatch (FirstItem (P.claim (P.state item)).grammar
-        (B.claim (B.state marks.opening)).grammar (G.claim (G.state marks.gap)).grammar)
+    ensures spared { (P.terms.claim (P.state item)).spares_memory
+        → (B.terms.claim (B.state marks.opening)).spares_memory
+        → (B.terms.claim (B.state marks.closing)).spares_memory
+        → (G.terms.claim (G.state marks.gap)).spares_memory
+        → NoMatch (FirstItem (P.terms.claim (P.state item)).grammar
+        (B.terms.claim (B.state marks.opening)).grammar (G.terms.claim (G.state marks.gap)).grammar)
         (I.view input.old).left.tokens → IsSpared E.kind (I.view input.old) result }
 {
     let items: Separated<P, (B, G), I, O, (M, W), Vec<O, A>, E, A> = separated(
@@ -146,11 +149,11 @@ where
     requires callable { F.IsAlwaysCallable value }
     requires reads { CallsRead I.reading I.view E.kind (CalledAtMut F.FnMut) (R.grammar rule)
         value }
-    requires opening { CanRead (B.can_parse marks.opening) (B.claim (B.state marks.opening)) }
-    requires comma { CanRead (B.can_parse marks.comma) (B.claim (B.state marks.comma))
-        × (B.claim (B.state marks.comma)).consumes }
-    requires closing { CanRead (B.can_parse marks.closing) (B.claim (B.state marks.closing)) }
-    requires gap { CanRead (G.can_parse marks.gap) (G.claim (G.state marks.gap)) }
+    requires opening { CanRead (B.can_parse marks.opening) (B.terms.claim (B.state marks.opening)) }
+    requires comma { CanRead (B.can_parse marks.comma) (B.terms.claim (B.state marks.comma))
+        × (B.terms.claim (B.state marks.comma)).consumes }
+    requires closing { CanRead (B.can_parse marks.closing) (B.terms.claim (B.state marks.closing)) }
+    requires gap { CanRead (G.can_parse marks.gap) (G.terms.claim (G.state marks.gap)) }
     ensures ran { ItemsRan I.reading E.form
         (TerminatedDoes (ByDoes I.view E.kind (CalledAtMut F.FnMut)) G.does) B.does G.does (
           ((rule, value), G.state marks.gap),
@@ -161,16 +164,18 @@ where
         )
         (I.view input.old) (answer_by E.kind result) (I.view input.new) }
     ensures reads { Reads I.reading E.kind
-        (Items (Both former (R.grammar rule) (G.claim (G.state marks.gap)).grammar)
-        (B.claim (B.state marks.opening)).grammar (B.claim (B.state marks.comma)).grammar
-        (B.claim (B.state marks.closing)).grammar (G.claim (G.state marks.gap)).grammar)
+        (Items (Both former (R.grammar rule) (G.terms.claim (G.state marks.gap)).grammar)
+        (B.terms.claim (B.state marks.opening)).grammar
+        (B.terms.claim (B.state marks.comma)).grammar
+        (B.terms.claim (B.state marks.closing)).grammar (G.terms.claim (G.state marks.gap)).grammar)
         (I.view input.old) result (I.view input.new) }
     ensures spared { CallsSpared I.view E.kind (CalledAtMut F.FnMut) value
-        → (B.claim (B.state marks.opening)).spares_memory
-        → (B.claim (B.state marks.closing)).spares_memory
-        → (G.claim (G.state marks.gap)).spares_memory
-        → NoMatch (FirstItem (Both former (R.grammar rule) (G.claim (G.state marks.gap)).grammar)
-        (B.claim (B.state marks.opening)).grammar (G.claim (G.state marks.gap)).grammar)
+        → (B.terms.claim (B.state marks.opening)).spares_memory
+        → (B.terms.claim (B.state marks.closing)).spares_memory
+        → (G.terms.claim (G.state marks.gap)).spares_memory
+        → NoMatch
+        (FirstItem (Both former (R.grammar rule) (G.terms.claim (G.state marks.gap)).grammar)
+        (B.terms.claim (B.state marks.opening)).grammar (G.terms.claim (G.state marks.gap)).grammar)
         (I.view input.old).left.tokens → IsSpared E.kind (I.view input.old) result }
 {
     let item = terminated(rule.by(value), marks.gap);

@@ -2,7 +2,7 @@
 //! and over any stream.
 ghost use Rattle.format_parts.specs.Words.{pair};
 ghost use Rattle.parser_definitions.specs.Both.{BothDo};
-ghost use Rattle.parser_definitions.specs.Claim.{CanRead};
+ghost use Rattle.parser_definitions.specs.Terms.{CanRead};
 ghost use Rattle.parser_definitions.specs.Does.{Ran};
 ghost use Rattle.parser_definitions.specs.Tuples.{SequenceDoes4};
 ghost use Rattle.winnow_core.specs.Exact.{IsSpared, Reads};
@@ -23,16 +23,16 @@ where
     E: ParserError<I>,
     P: Parser<I, O1, E> + Drop,
     Q: Parser<I, O2, E> + Drop,
-    requires first { CanRead (P.can_parse first) (P.claim (P.state first)) }
-    requires second { CanRead (Q.can_parse second) (Q.claim (Q.state second)) }
+    requires first { CanRead (P.can_parse first) (P.terms.claim (P.state first)) }
+    requires second { CanRead (Q.can_parse second) (Q.terms.claim (Q.state second)) }
     ensures ran { (t : P.State × Q.State) × Ran I.reading (BothDo pair P.does Q.does) E.form
         (P.state first, Q.state second) (I.view input.old) (answer_by E.kind result) t
         (I.view input.new) }
     ensures reads { Reads I.reading E.kind
-        (Both pair (P.claim (P.state first)).grammar (Q.claim (Q.state second)).grammar)
+        (Both pair (P.terms.claim (P.state first)).grammar (Q.terms.claim (Q.state second)).grammar)
         (I.view input.old) result (I.view input.new) }
-    ensures spared { (P.claim (P.state first)).spares_memory
-        → (Q.claim (Q.state second)).spares_memory → IsSpared E.kind (I.view input.old) result }
+    ensures spared { (P.terms.claim (P.state first)).spares_memory
+        → (Q.terms.claim (Q.state second)).spares_memory → IsSpared E.kind (I.view input.old) result }
 {
     (first, second).read(input)
 }
@@ -56,21 +56,22 @@ where
     Q: Parser<I, O2, E> + Drop,
     R: Parser<I, O3, E> + Drop,
     S: Parser<I, O4, E> + Drop,
-    requires first { CanRead (P.can_parse first) (P.claim (P.state first)) }
-    requires second { CanRead (Q.can_parse second) (Q.claim (Q.state second)) }
-    requires third { CanRead (R.can_parse third) (R.claim (R.state third)) }
-    requires fourth { CanRead (S.can_parse fourth) (S.claim (S.state fourth)) }
+    requires first { CanRead (P.can_parse first) (P.terms.claim (P.state first)) }
+    requires second { CanRead (Q.can_parse second) (Q.terms.claim (Q.state second)) }
+    requires third { CanRead (R.can_parse third) (R.terms.claim (R.state third)) }
+    requires fourth { CanRead (S.can_parse fourth) (S.terms.claim (S.state fourth)) }
     ensures ran { (t : P.State × Q.State × R.State × S.State)
         × Ran I.reading (SequenceDoes4 P.does Q.does R.does S.does) E.form
         (P.state first, Q.state second, R.state third, S.state fourth) (I.view input.old)
         (answer_by E.kind result) t (I.view input.new) }
     ensures reads { Reads I.reading E.kind
-        (Four (P.claim (P.state first)).grammar (Q.claim (Q.state second)).grammar
-        (R.claim (R.state third)).grammar (S.claim (S.state fourth)).grammar)
+        (Four (P.terms.claim (P.state first)).grammar (Q.terms.claim (Q.state second)).grammar
+        (R.terms.claim (R.state third)).grammar (S.terms.claim (S.state fourth)).grammar)
         (I.view input.old) result (I.view input.new) }
-    ensures spared { (P.claim (P.state first)).spares_memory
-        → (Q.claim (Q.state second)).spares_memory → (R.claim (R.state third)).spares_memory
-        → (S.claim (S.state fourth)).spares_memory → IsSpared E.kind (I.view input.old) result }
+    ensures spared { (P.terms.claim (P.state first)).spares_memory
+        → (Q.terms.claim (Q.state second)).spares_memory
+        → (R.terms.claim (R.state third)).spares_memory
+        → (S.terms.claim (S.state fourth)).spares_memory → IsSpared E.kind (I.view input.old) result }
 {
     (first, second, third, fourth).read(input)
 }

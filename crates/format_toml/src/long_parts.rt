@@ -3,7 +3,7 @@
 ghost use Rattle.format_parts.specs.Words.{latter};
 ghost use Rattle.format_toml.specs.LongGrammars.{LongOf, QuoteOf};
 ghost use Rattle.std.specs.Prelude.{⊤, None};
-ghost use Rattle.parser_definitions.specs.Claim.{CanRead};
+ghost use Rattle.parser_definitions.specs.Terms.{CanRead};
 ghost use Rattle.winnow_core.specs.Exact.{Reads};
 ghost use Rattle.grammars.specs.Grammar.{Both, Either, Gathered, Many};
 ghost use Rattle.stream_sets.specs.Range.{from_to};
@@ -24,8 +24,8 @@ where
     O: Drop,
     E: ParserError<I>,
     P: Parser<I, O, E> + Copy + Drop,
-    requires quote { CanRead (P.can_parse quote) (P.claim (P.state quote)) }
-    ensures { Reads I.reading E.kind (QuoteOf (P.claim (P.state quote)).grammar)
+    requires quote { CanRead (P.can_parse quote) (P.terms.claim (P.state quote)) }
+    ensures { Reads I.reading E.kind (QuoteOf (P.terms.claim (P.state quote)).grammar)
         (I.view input.old) result (I.view input.new) }
 {
     let three = (quote, quote, quote);
@@ -48,12 +48,12 @@ where
     S: Parser<I, W, E> + Drop,
     P: Parser<I, O, E> + Drop,
     Q: Parser<I, O, E> + Drop,
-    requires skips { CanRead (S.can_parse skips) (S.claim (S.state skips)) }
-    requires content { CanRead (P.can_parse content) (P.claim (P.state content)) }
-    requires quote { CanRead (Q.can_parse quote) (Q.claim (Q.state quote)) }
+    requires skips { CanRead (S.can_parse skips) (S.terms.claim (S.state skips)) }
+    requires content { CanRead (P.can_parse content) (P.terms.claim (P.state content)) }
+    requires quote { CanRead (Q.can_parse quote) (Q.terms.claim (Q.state quote)) }
     ensures { Reads I.reading E.kind
-        (Both latter (S.claim (S.state skips)).grammar
-        (Either (P.claim (P.state content)).grammar (Q.claim (Q.state quote)).grammar))
+        (Both latter (S.terms.claim (S.state skips)).grammar
+        (Either (P.terms.claim (P.state content)).grammar (Q.terms.claim (Q.state quote)).grammar))
         (I.view input.old) result (I.view input.new) }
 {
     preceded(skips, alt((content, quote))).read(input)
@@ -67,10 +67,10 @@ where
     E: ParserError<I>,
     P: Parser<I, O, E> + Drop,
     Q: Parser<I, O, E> + Drop,
-    requires first { CanRead (P.can_parse first) (P.claim (P.state first)) }
-    requires second { CanRead (Q.can_parse second) (Q.claim (Q.state second)) }
+    requires first { CanRead (P.can_parse first) (P.terms.claim (P.state first)) }
+    requires second { CanRead (Q.can_parse second) (Q.terms.claim (Q.state second)) }
     ensures { Reads I.reading E.kind
-        (Either (P.claim (P.state first)).grammar (Q.claim (Q.state second)).grammar)
+        (Either (P.terms.claim (P.state first)).grammar (Q.terms.claim (Q.state second)).grammar)
         (I.view input.old) result (I.view input.new) }
 {
     alt((first, second)).read(input)
@@ -95,16 +95,16 @@ where
     G: Parser<I, W, E> + Drop,
     N: Parser<I, M, E> + Drop,
     P: Parser<I, M, E> + Drop,
-    requires backslash { CanRead (B.can_parse backslash) (B.claim (B.state backslash)) }
-    requires white { CanRead (G.can_parse white) (G.claim (G.state white)) }
-    requires newline { CanRead (N.can_parse newline) (N.claim (N.state newline)) }
-    requires blank { CanRead (P.can_parse blank) (P.claim (P.state blank))
-        × (P.claim (P.state blank)).consumes }
+    requires backslash { CanRead (B.can_parse backslash) (B.terms.claim (B.state backslash)) }
+    requires white { CanRead (G.can_parse white) (G.terms.claim (G.state white)) }
+    requires newline { CanRead (N.can_parse newline) (N.terms.claim (N.state newline)) }
+    requires blank { CanRead (P.can_parse blank) (P.terms.claim (P.state blank))
+        × (P.terms.claim (P.state blank)).consumes }
     ensures { Reads I.reading E.kind
-        (Both latter (B.claim (B.state backslash)).grammar
-        (Both latter (G.claim (G.state white)).grammar
-        (Both latter (N.claim (N.state newline)).grammar
-        (Gathered (λ (all : ⊤) parts. ⊤) (Many (P.claim (P.state blank)).grammar
+        (Both latter (B.terms.claim (B.state backslash)).grammar
+        (Both latter (G.terms.claim (G.state white)).grammar
+        (Both latter (N.terms.claim (N.state newline)).grammar
+        (Gathered (λ (all : ⊤) parts. ⊤) (Many (P.terms.claim (P.state blank)).grammar
         (from_to 0 None))))))
         (I.view input.old) result (I.view input.new) }
 {
@@ -131,14 +131,14 @@ where
     P: Parser<I, char, E> + Drop,
     S: Parser<I, (), E> + Drop,
     N: Parser<I, M, E> + Drop,
-    requires quote { CanRead (Q.can_parse quote) (Q.claim (Q.state quote)) }
-    requires part { CanRead (P.can_parse part) (P.claim (P.state part))
-        × (P.claim (P.state part)).consumes }
-    requires skips { CanRead (S.can_parse skips) (S.claim (S.state skips)) }
-    requires newline { CanRead (N.can_parse newline) (N.claim (N.state newline)) }
+    requires quote { CanRead (Q.can_parse quote) (Q.terms.claim (Q.state quote)) }
+    requires part { CanRead (P.can_parse part) (P.terms.claim (P.state part))
+        × (P.terms.claim (P.state part)).consumes }
+    requires skips { CanRead (S.can_parse skips) (S.terms.claim (S.state skips)) }
+    requires newline { CanRead (N.can_parse newline) (N.terms.claim (N.state newline)) }
     ensures { Reads I.reading E.kind
-        (LongOf (Q.claim (Q.state quote)).grammar (P.claim (P.state part)).grammar
-        (S.claim (S.state skips)).grammar (N.claim (N.state newline)).grammar)
+        (LongOf (Q.terms.claim (Q.state quote)).grammar (P.terms.claim (P.state part)).grammar
+        (S.terms.claim (S.state skips)).grammar (N.terms.claim (N.state newline)).grammar)
         (I.view input.old) result (I.view input.new) }
 {
     let three = (quote, quote, quote);

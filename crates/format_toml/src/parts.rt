@@ -4,7 +4,7 @@ ghost use Rattle.format_toml.specs.Grammars.{Listing};
 ghost use Rattle.format_parts.specs.Words.{former, latter, pair};
 ghost use Rattle.std.specs.Fn.{CalledAtMut};
 ghost use Rattle.std.specs.Prelude.{◌≡◌, ⊤, false, None};
-ghost use Rattle.parser_definitions.specs.Claim.{CanRead};
+ghost use Rattle.parser_definitions.specs.Terms.{CanRead};
 ghost use Rattle.stream_sets.specs.Range.{from_to};
 ghost use Rattle.winnow_core.specs.Exact.{Reads};
 ghost use Rattle.winnow_core.specs.Exact.Whole.{ReadsAll};
@@ -43,14 +43,15 @@ where
     P: Parser<I, O, E> + Drop,
     B: Parser<I, M, E> + Drop,
     G: Parser<I, W, E> + Copy + Drop,
-    requires element { CanRead (P.can_parse element) (P.claim (P.state element)) }
-    requires mark { CanRead (B.can_parse mark) (B.claim (B.state mark))
-        × (B.claim (B.state mark)).consumes }
-    requires gap { CanRead (G.can_parse gap) (G.claim (G.state gap)) }
+    requires element { CanRead (P.can_parse element) (P.terms.claim (P.state element)) }
+    requires mark { CanRead (B.can_parse mark) (B.terms.claim (B.state mark))
+        × (B.terms.claim (B.state mark)).consumes }
+    requires gap { CanRead (G.can_parse gap) (G.terms.claim (G.state gap)) }
     ensures { Reads I.reading E.kind
         (Gathered (λ list os. list.items ≡ os)
-        (Parted (Both former (P.claim (P.state element)).grammar (G.claim (G.state gap)).grammar)
-        (Both pair (B.claim (B.state mark)).grammar (G.claim (G.state gap)).grammar)
+        (Parted (Both former (P.terms.claim (P.state element)).grammar
+        (G.terms.claim (G.state gap)).grammar)
+        (Both pair (B.terms.claim (B.state mark)).grammar (G.terms.claim (G.state gap)).grammar)
         (from_to 1 None))) (I.view input.old) result (I.view input.new) }
 {
     separated(alloc, 1.., terminated(element, gap), (mark, gap)).read(input)
@@ -72,12 +73,12 @@ where
     P: Parser<I, O1, E> + Drop,
     Q: Parser<I, O2, E> + Drop,
     R: Parser<I, O3, E> + Drop,
-    requires first { CanRead (P.can_parse first) (P.claim (P.state first)) }
-    requires second { CanRead (Q.can_parse second) (Q.claim (Q.state second)) }
-    requires third { CanRead (R.can_parse third) (R.claim (R.state third)) }
+    requires first { CanRead (P.can_parse first) (P.terms.claim (P.state first)) }
+    requires second { CanRead (Q.can_parse second) (Q.terms.claim (Q.state second)) }
+    requires third { CanRead (R.can_parse third) (R.terms.claim (R.state third)) }
     ensures { Reads I.reading E.kind
-        (Three (λ o1 o2 o3. o2) (P.claim (P.state first)).grammar
-        (Optional (Q.claim (Q.state second)).grammar) (R.claim (R.state third)).grammar)
+        (Three (λ o1 o2 o3. o2) (P.terms.claim (P.state first)).grammar
+        (Optional (Q.terms.claim (Q.state second)).grammar) (R.terms.claim (R.state third)).grammar)
         (I.view input.old) result (I.view input.new) }
 {
     delimited(first, opt(second), third).read(input)
@@ -102,16 +103,18 @@ where
     P: Parser<I, O, E> + Drop,
     B: Parser<I, M, E> + Copy + Drop,
     G: Parser<I, W, E> + Copy + Drop,
-    requires element { CanRead (P.can_parse element) (P.claim (P.state element)) }
-    requires opening { CanRead (B.can_parse marks.opening) (B.claim (B.state marks.opening)) }
-    requires comma { CanRead (B.can_parse marks.comma) (B.claim (B.state marks.comma))
-        × (B.claim (B.state marks.comma)).consumes }
-    requires closing { CanRead (B.can_parse marks.closing) (B.claim (B.state marks.closing)) }
-    requires gap { CanRead (G.can_parse marks.gap) (G.claim (G.state marks.gap)) }
+    requires element { CanRead (P.can_parse element) (P.terms.claim (P.state element)) }
+    requires opening { CanRead (B.can_parse marks.opening) (B.terms.claim (B.state marks.opening)) }
+    requires comma { CanRead (B.can_parse marks.comma) (B.terms.claim (B.state marks.comma))
+        × (B.terms.claim (B.state marks.comma)).consumes }
+    requires closing { CanRead (B.can_parse marks.closing) (B.terms.claim (B.state marks.closing)) }
+    requires gap { CanRead (G.can_parse marks.gap) (G.terms.claim (G.state marks.gap)) }
     ensures { Reads I.reading E.kind
-        (Listing (P.claim (P.state element)).grammar (B.claim (B.state marks.opening)).grammar
-        (B.claim (B.state marks.comma)).grammar (B.claim (B.state marks.closing)).grammar
-        (G.claim (G.state marks.gap)).grammar) (I.view input.old) result
+        (Listing (P.terms.claim (P.state element)).grammar
+        (B.terms.claim (B.state marks.opening)).grammar
+        (B.terms.claim (B.state marks.comma)).grammar
+        (B.terms.claim (B.state marks.closing)).grammar
+        (G.terms.claim (G.state marks.gap)).grammar) (I.view input.old) result
         (I.view input.new) }
 {
     let elements: Separated<P, (B, G), I, O, (M, W), Vec<O, A>, E, A> = separated(
@@ -147,15 +150,16 @@ where
     requires callable { F.IsAlwaysCallable value }
     requires reads { CallsRead I.reading I.view E.kind (CalledAtMut F.FnMut) (R.grammar rule)
         value }
-    requires opening { CanRead (B.can_parse marks.opening) (B.claim (B.state marks.opening)) }
-    requires comma { CanRead (B.can_parse marks.comma) (B.claim (B.state marks.comma))
-        × (B.claim (B.state marks.comma)).consumes }
-    requires closing { CanRead (B.can_parse marks.closing) (B.claim (B.state marks.closing)) }
-    requires gap { CanRead (G.can_parse marks.gap) (G.claim (G.state marks.gap)) }
+    requires opening { CanRead (B.can_parse marks.opening) (B.terms.claim (B.state marks.opening)) }
+    requires comma { CanRead (B.can_parse marks.comma) (B.terms.claim (B.state marks.comma))
+        × (B.terms.claim (B.state marks.comma)).consumes }
+    requires closing { CanRead (B.can_parse marks.closing) (B.terms.claim (B.state marks.closing)) }
+    requires gap { CanRead (G.can_parse marks.gap) (G.terms.claim (G.state marks.gap)) }
     ensures { Reads I.reading E.kind
-        (Listing (Both former (R.grammar rule) (G.claim (G.state marks.gap)).grammar)
-        (B.claim (B.state marks.opening)).grammar (B.claim (B.state marks.comma)).grammar
-        (B.claim (B.state marks.closing)).grammar (G.claim (G.state marks.gap)).grammar)
+        (Listing (Both former (R.grammar rule) (G.terms.claim (G.state marks.gap)).grammar)
+        (B.terms.claim (B.state marks.opening)).grammar
+        (B.terms.claim (B.state marks.comma)).grammar
+        (B.terms.claim (B.state marks.closing)).grammar (G.terms.claim (G.state marks.gap)).grammar)
         (I.view input.old) result (I.view input.new) }
 {
     let element = terminated(rule.by(value), marks.gap);
@@ -183,11 +187,11 @@ where
     requires callable { F.IsAlwaysCallable value }
     requires reads { CallsRead I.reading I.view E.kind (CalledAtMut F.FnMut) (R.grammar rule)
         value }
-    requires key { CanRead (P.can_parse key) (P.claim (P.state key)) }
-    requires mark { CanRead (Q.can_parse mark) (Q.claim (Q.state mark)) }
+    requires key { CanRead (P.can_parse key) (P.terms.claim (P.state key)) }
+    requires mark { CanRead (Q.can_parse mark) (Q.terms.claim (Q.state mark)) }
     ensures { Reads I.reading E.kind
-        (Three (λ k s v. (k, v)) (P.claim (P.state key)).grammar
-        (Q.claim (Q.state mark)).grammar (R.grammar rule))
+        (Three (λ k s v. (k, v)) (P.terms.claim (P.state key)).grammar
+        (Q.terms.claim (Q.state mark)).grammar (R.grammar rule))
         (I.view input.old) result (I.view input.new) }
 {
     read_pair(key, mark, rule.by(value), input)
@@ -211,15 +215,15 @@ where
     P: Parser<I, O, E> + Drop,
     Q: Parser<I, C, E> + Drop,
     N: Parser<I, O, E> + Drop,
-    requires white { CanRead (P.can_parse white) (P.claim (P.state white))
-        × (P.claim (P.state white)).consumes }
-    requires comment { CanRead (Q.can_parse comment) (Q.claim (Q.state comment)) }
-    requires newline { CanRead (N.can_parse newline) (N.claim (N.state newline))
-        × (N.claim (N.state newline)).consumes }
+    requires white { CanRead (P.can_parse white) (P.terms.claim (P.state white))
+        × (P.terms.claim (P.state white)).consumes }
+    requires comment { CanRead (Q.can_parse comment) (Q.terms.claim (Q.state comment)) }
+    requires newline { CanRead (N.can_parse newline) (N.terms.claim (N.state newline))
+        × (N.terms.claim (N.state newline)).consumes }
     ensures { Reads I.reading E.kind
-        (Gathered (λ all parts. ⊤) (Many (Either (P.claim (P.state white)).grammar
-        (Both latter (Optional (Q.claim (Q.state comment)).grammar)
-        (N.claim (N.state newline)).grammar)) (from_to 0 None)))
+        (Gathered (λ all parts. ⊤) (Many (Either (P.terms.claim (P.state white)).grammar
+        (Both latter (Optional (Q.terms.claim (Q.state comment)).grammar)
+        (N.terms.claim (N.state newline)).grammar)) (from_to 0 None)))
         (I.view input.old) result (I.view input.new) }
 {
     let part = alt((white, preceded(opt(comment), newline)));
@@ -242,12 +246,12 @@ where
     P: Parser<I, O1, E> + Drop,
     Q: Parser<I, O2, E> + Drop,
     R: Parser<I, O3, E> + Drop,
-    requires first { CanRead (P.can_parse first) (P.claim (P.state first)) }
-    requires second { CanRead (Q.can_parse second) (Q.claim (Q.state second)) }
-    requires third { CanRead (R.can_parse third) (R.claim (R.state third)) }
+    requires first { CanRead (P.can_parse first) (P.terms.claim (P.state first)) }
+    requires second { CanRead (Q.can_parse second) (Q.terms.claim (Q.state second)) }
+    requires third { CanRead (R.can_parse third) (R.terms.claim (R.state third)) }
     ensures { Reads I.reading E.kind
-        (Three (λ k s v. (k, v)) (P.claim (P.state first)).grammar
-        (Q.claim (Q.state second)).grammar (R.claim (R.state third)).grammar)
+        (Three (λ k s v. (k, v)) (P.terms.claim (P.state first)).grammar
+        (Q.terms.claim (Q.state second)).grammar (R.terms.claim (R.state third)).grammar)
         (I.view input.old) result (I.view input.new) }
 {
     separated_pair(first, second, third).read(input)
@@ -269,13 +273,14 @@ where
     P: Parser<I, O, E> + Drop,
     Q: Parser<I, C, E> + Drop,
     G: Parser<I, W, E> + Copy + Drop,
-    requires item { CanRead (P.can_parse item) (P.claim (P.state item)) }
-    requires comment { CanRead (Q.can_parse comment) (Q.claim (Q.state comment)) }
-    requires gap { CanRead (G.can_parse gap) (G.claim (G.state gap)) }
+    requires item { CanRead (P.can_parse item) (P.terms.claim (P.state item)) }
+    requires comment { CanRead (Q.can_parse comment) (Q.terms.claim (Q.state comment)) }
+    requires gap { CanRead (G.can_parse gap) (G.terms.claim (G.state gap)) }
     ensures { Reads I.reading E.kind
-        (Three (λ o1 o2 o3. o2) (G.claim (G.state gap)).grammar
-        (Optional (Both former (P.claim (P.state item)).grammar
-        (G.claim (G.state gap)).grammar)) (Optional (Q.claim (Q.state comment)).grammar))
+        (Three (λ o1 o2 o3. o2) (G.terms.claim (G.state gap)).grammar
+        (Optional (Both former (P.terms.claim (P.state item)).grammar
+        (G.terms.claim (G.state gap)).grammar))
+        (Optional (Q.terms.claim (Q.state comment)).grammar))
         (I.view input.old) result (I.view input.new) }
 {
     delimited(gap, opt(terminated(item, gap)), opt(comment)).read(input)
@@ -296,13 +301,13 @@ where
     A: Allocator + Copy,
     P: Parser<I, O, E> + Drop,
     R: Parser<I, N, E> + Drop,
-    requires line { CanRead (P.can_parse line) (P.claim (P.state line)) }
-    requires newline { CanRead (R.can_parse newline) (R.claim (R.state newline))
-        × (R.claim (R.state newline)).consumes }
+    requires line { CanRead (P.can_parse line) (P.terms.claim (P.state line)) }
+    requires newline { CanRead (R.can_parse newline) (R.terms.claim (R.state newline))
+        × (R.terms.claim (R.state newline)).consumes }
     requires whole { I.supports_partial ≡ false }
     ensures { ReadsAll E.inner_kind
         (Gathered (λ list os. list.items ≡ os)
-        (Parted (P.claim (P.state line)).grammar (R.claim (R.state newline)).grammar
+        (Parted (P.terms.claim (P.state line)).grammar (R.terms.claim (R.state newline)).grammar
         (from_to 1 None))) (I.view input).left.tokens result }
 {
     separated(alloc, 1.., line, newline).read_all(input)
@@ -321,11 +326,11 @@ where
     O2: Drop,
     P: Parser<I, O1, E> + Drop,
     Q: Parser<I, O2, E> + Drop,
-    requires first { CanRead (P.can_parse first) (P.claim (P.state first)) }
-    requires second { CanRead (Q.can_parse second) (Q.claim (Q.state second)) }
+    requires first { CanRead (P.can_parse first) (P.terms.claim (P.state first)) }
+    requires second { CanRead (Q.can_parse second) (Q.terms.claim (Q.state second)) }
     ensures { Reads I.reading E.kind
-        (Taken I.reading (Both pair (P.claim (P.state first)).grammar
-        (Optional (Q.claim (Q.state second)).grammar)))
+        (Taken I.reading (Both pair (P.terms.claim (P.state first)).grammar
+        (Optional (Q.terms.claim (Q.state second)).grammar)))
         (I.view input.old) result (I.view input.new) }
 {
     (first, opt(second)).take().read(input)

@@ -19,9 +19,9 @@ fn past<'i, O: Drop, P: Parser<&'i str, O, ErrMode<EmptyError>> + Drop>(
     parser: P,
     text: &'i str,
 ) -> Result<Option<&'i str>, ErrMode<EmptyError>>
-    requires { P.can_parse parser × (P.claim (P.state parser)).premise
-        × (P.claim (P.state parser)).backtracks }
-    ensures { IfOk result (λ o. IsPast (P.claim (P.state parser)).grammar (chars text.now) o) }
+    requires { P.can_parse parser × (P.terms.claim (P.state parser)).premise
+        × (P.terms.claim (P.state parser)).backtracks }
+    ensures { IfOk result (λ o. IsPast (P.terms.claim (P.state parser)).grammar (chars text.now) o) }
 {
     let mut parser = parser;
     let mut rest = text;
@@ -43,10 +43,10 @@ fn skip<'i, O: Drop, P: Parser<&'i str, O, ErrMode<EmptyError>> + Drop>(
     parser: P,
     text: &'i str,
 ) -> Result<&'i str, ErrMode<EmptyError>>
-    requires { P.can_parse parser × (P.claim (P.state parser)).premise
-        × (P.claim (P.state parser)).backtracks }
+    requires { P.can_parse parser × (P.terms.claim (P.state parser)).premise
+        × (P.terms.claim (P.state parser)).backtracks }
     ensures { IfOk result
-        (λ rest. MatchesAtStart (P.claim (P.state parser)).grammar (chars text.now)
+        (λ rest. MatchesAtStart (P.terms.claim (P.state parser)).grammar (chars text.now)
         (chars rest.now)) }
 {
     let mut parser = parser;

@@ -29,12 +29,6 @@ pub record Lawful {S T O : Type 0} (stable : Type 0) (alike : O → O → Type 0
       (x : Outcome (End S T) O) → IsFinal x → does on_cut s w x
       → does (grown flag) s (extend more w) (longer more x)
 
--- When a definition is lawful, when it is stable, and which of its outputs are equal.
-pub record Terms (O : Type 0) : Type 1 where
-  pub premise : Type 0
-  pub stable : Type 0
-  pub alike : O → O → Type 0
-
 -- Every longer input, partial or complete, has this outcome if it is final.
 pub record Gets {S T O : Type 0} (alike : O → O → Type 0) (does : Does S T O) (s : S) (w : Left T)
     (x : Outcome (End S T) O) : Type 0 where

@@ -10,7 +10,6 @@ pub mod Bounded
 pub mod ByRef
 pub mod BytesOfBits
 pub mod Cases
-pub mod Claim
 pub mod Class
 pub mod Closures
 pub mod Consumes
@@ -72,6 +71,7 @@ pub mod Take
 pub mod TakeEscaped
 pub mod TakeUntil
 pub mod TakeWhile
+pub mod Terms
 pub mod Then
 pub mod Threes
 pub mod TillLineEnding

@@ -122,11 +122,6 @@ pub is_end_of_trans5 : {T S : Type 0} {reading : Reading T S} {a b c d e f : Inp
     → IsEndOf reading b a → IsEndOf reading f a
 is_end_of_trans5 p q r s t = is_end_of_trans p (is_end_of_trans4 q r s t)
 
-pub is_end_of_trans6 : {T S : Type 0} {reading : Reading T S} {a b c d e f g : Input T}
-    → IsEndOf reading g f → IsEndOf reading f e → IsEndOf reading e d → IsEndOf reading d c
-    → IsEndOf reading c b → IsEndOf reading b a → IsEndOf reading g a
-is_end_of_trans6 p q r s t u = is_end_of_trans p (is_end_of_trans5 q r s t u)
-
 pub passes_end : {T S : Type 0} {reading : Reading T S} {front : List T} {i j : Input T}
     → Passes reading front i j → IsEndOf reading j i
 passes_end p = record {

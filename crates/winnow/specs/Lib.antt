@@ -116,7 +116,6 @@ pub use Rattle.parser_definitions.specs.Bounded
 pub use Rattle.parser_definitions.specs.ByRef as ByRefDefinition
 pub use Rattle.parser_definitions.specs.BytesOfBits as BytesOfBitsDefinition
 pub use Rattle.parser_definitions.specs.Cases
-pub use Rattle.parser_definitions.specs.Claim
 pub use Rattle.parser_definitions.specs.Class as ClassDefinition
 pub use Rattle.parser_definitions.specs.Closures
 pub use Rattle.parser_definitions.specs.Consumes
@@ -178,6 +177,7 @@ pub use Rattle.parser_definitions.specs.Take as TakeDefinition
 pub use Rattle.parser_definitions.specs.TakeEscaped as TakeEscapedDefinition
 pub use Rattle.parser_definitions.specs.TakeUntil as TakeUntilDefinition
 pub use Rattle.parser_definitions.specs.TakeWhile as TakeWhileDefinition
+pub use Rattle.parser_definitions.specs.Terms
 pub use Rattle.parser_definitions.specs.Then
 pub use Rattle.parser_definitions.specs.Threes
 pub use Rattle.parser_definitions.specs.TillLineEnding as TillLineEndingDefinition

@@ -1,5 +1,5 @@
 -- When a definition covers the calls of a parser, and what the lemmas of combinators share.
-use Rattle.std.specs.Prelude.{◌≡◌, ⊤, Ok, Err}
+use Rattle.std.specs.Prelude.{◌≡◌, Ok, Err}
 use Rattle.std.proofs.Common.{refl, sym, subst, ap, ◌∙◌}
 use Rattle.streams.specs.Input.{Input, IsEndOf, back_at}
 use Rattle.streams.specs.Kind.{Kind, backtrack, cut, incomplete, memory}
@@ -7,7 +7,7 @@ use Rattle.streams.specs.Reading.{Reading}
 use Rattle.stream_errors.specs.Form.{Answer}
 use Rattle.stream_errors.specs.Form.{ErrorForm}
 use Rattle.winnow_core.specs.Runs.{Keeps, LeaveEnds, Runs}
-use Rattle.parser_definitions.specs.Does.{Ran, Terms}
+use Rattle.parser_definitions.specs.Does.{Ran}
 use Rattle.parser_definitions.specs.Left.{End, Left, left_of}
 use Rattle.parser_definitions.specs.Outcome.{Does, Outcome, Setting, outcome_of, setting_of}
 use Rattle.parser_definitions.specs.Then.{Comes, ComesOf}
@@ -33,18 +33,6 @@ Calls {S} {T} {O} at run does = (s : S) (i : Input T) (answer : Answer O) (t : S
 pub record Covers {S T O : Type 0} (at : Setting) (run : Runs S T O) (does : Does S T O) : Type 0
   where
     pub covers : Calls at run does
-
--- No definition: every outcome is allowed.
-abbrev pub AnyOutcome : {S T O : Type 0} → Does S T O
-AnyOutcome at s w x = ⊤
-
--- Of no law: its premise is false.
-abbrev pub no_terms : {O : Type 0} → Terms O
-no_terms = record {
-  premise = ⊥;
-  stable = ⊥;
-  alike = λ o p. o ≡ p;
-}
 
 -- ---- settings
 

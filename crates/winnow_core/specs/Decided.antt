@@ -1,12 +1,7 @@
 -- Runs that one state and one input decide.
 use Rattle.std.specs.Prelude.{◌≡◌, Ok, Err}
-use Rattle.streams.specs.Kind.{memory}
 use Rattle.stream_errors.specs.Form.{Answer}
 pub mod Inputs
-
--- The result is not out of memory.
-abbrev pub NotMemory : {O : Type 0} → Answer O → Type 0
-NotMemory answer = answer ≡ Err memory → ⊥
 
 -- Both are equal outputs, or errors of the same kind.
 abbrev pub EqualResults : {O : Type 0} → (O → O → Type 0) → Answer O → Answer O → Type 0

@@ -1,17 +1,13 @@
--- The relation of the calls of a parser, and its semantics.
+-- Relations of the calls of a parser.
 use Rattle.std.specs.Prelude.{◌≡◌}
 use Rattle.streams.specs.Input.{Input, IsEndOf}
 use Rattle.streams.specs.Reading.{Reading}
-use Rattle.stream_errors.specs.Form.{Answer, ErrorForm}
+use Rattle.stream_errors.specs.Form.{Answer}
 
 -- `run s i answer t j`: from state `s` and input `i`, a call returns `answer` and leaves state `t`
 -- and input `j`.
 abbrev pub Runs : Type 0 → Type 0 → Type 0 → Type 1
 Runs S T O = S → Input T → Answer O → S → Input T → Type 0
-
--- The semantics of a parser: its calls, by the form of errors.
-abbrev pub Meaning : Type 0 → Type 0 → Type 0 → Type 1
-Meaning S T O = ErrorForm → Runs S T O
 
 -- Every call leaves a suffix of its input.
 abbrev pub LeaveEnds : {S T L O : Type 0} → Reading T L → Runs S T O → Type 0

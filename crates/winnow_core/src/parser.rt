@@ -3,10 +3,10 @@
 
 ghost use Rattle.std.specs.Prelude.{⊤, ◌≡◌, true, false, IfErr};
 ghost use Rattle.stream_errors.specs.Form.{answer_by, modal};
-ghost use Rattle.parser_definitions.specs.Claim.{Claim, Claimed};
-ghost use Rattle.parser_definitions.specs.Does.{Gets, Lawful, Ran, Terms};
+ghost use Rattle.parser_definitions.specs.Does.{Gets, Ran};
 ghost use Rattle.parser_definitions.specs.Left.{left_of};
 ghost use Rattle.parser_definitions.specs.Outcome.{Does, outcome_of};
+ghost use Rattle.parser_definitions.specs.Terms.{Meets, Terms};
 ghost use Rattle.winnow_core.specs.ByRef.{by_ref_name, by_ref_parser};
 ghost use Rattle.winnow_core.specs.Exact.{IsSpared, Reads, UnlessWanted};
 ghost use Rattle.winnow_core.specs.Exact.Whole.{IsWant, ReadsAll};
@@ -63,12 +63,9 @@ pub trait Parser<I: Stream, O, E: ParserError<I>>: Sized {
     // nothing.
     ghost does: { Does State I.Seen O };
 
-    // When the definition is lawful, when it is stable, and which outputs are equal. `no_terms`:
-    // never.
-    ghost terms: { Terms O };
-
-    // The parser's specification by a grammar, for a state. `no_claim` specifies nothing.
-    ghost claim: { State → Claim I.Seen O };
+    // When the definition is lawful, when it is stable, which outputs are equal, and its
+    // specification by a grammar, for a state. `no_terms` and `no_claim`: nothing.
+    ghost terms: { Terms State I.Seen O };
 
     /// Runs the parser at the start of `input` and returns its output.
     ///
@@ -202,16 +199,16 @@ pub trait Parser<I: Stream, O, E: ParserError<I>>: Sized {
     #[inline(always)]
     final fn read(&mut self, input: &mut I) -> Result<O, E>
         requires callable { can_parse self.old }
-        requires premise { (claim (state self.old)).premise }
-        requires backtracks { (claim (state self.old)).backtracks }
+        requires premise { (terms.claim (state self.old)).premise }
+        requires backtracks { (terms.claim (state self.old)).backtracks }
         ensures again { can_parse self.new }
         ensures ran { Ran I.reading does E.form (state self.old) (I.view input.old)
             (answer_by E.kind result) (state self.new) (I.view input.new) }
         ensures kept { (I.view input.old).status.cut ≡ false
             → UnlessWanted E.kind result (state self.new ≡ state self.old) }
-        ensures reads { Reads I.reading E.kind (claim (state self.old)).grammar
+        ensures reads { Reads I.reading E.kind (terms.claim (state self.old)).grammar
             (I.view input.old) result (I.view input.new) }
-        ensures spared { (claim (state self.old)).spares_memory
+        ensures spared { (terms.claim (state self.old)).spares_memory
             → IsSpared E.kind (I.view input.old) result }
     {
         self.parse_next(input)
@@ -230,15 +227,15 @@ pub trait Parser<I: Stream, O, E: ParserError<I>>: Sized {
         I: StreamIsPartial,
         O: Drop,
         requires callable { can_parse self.old }
-        requires premise { (claim (state self.old)).premise }
+        requires premise { (terms.claim (state self.old)).premise }
         requires whole { I.supports_partial ≡ false }
         ensures again { can_parse self.new }
         ensures ran { ParsesWhole I.view I.reading.units E.inner_kind (I.view input).left
             (λ answer j. Ran I.reading does E.form (state self.old) (I.view input) answer
             (state self.new) j) result }
-        ensures reads { ReadsAll E.inner_kind (claim (state self.old)).grammar
+        ensures reads { ReadsAll E.inner_kind (terms.claim (state self.old)).grammar
             (I.view input).left.tokens result }
-        ensures spared { (claim (state self.old)).spares_memory
+        ensures spared { (terms.claim (state self.old)).spares_memory
             → IfErr result (λ fault. IsWant E.inner_kind fault → ⊥) }
     {
         self.parse(input)
@@ -547,9 +544,6 @@ pub trait Parser<I: Stream, O, E: ParserError<I>>: Sized {
     }
 
     // State and input determine the outcome; if the parser is stable, a final outcome on partial
-    // input is the outcome of every longer input.
-    ghost lawful: { terms.premise → Lawful terms.stable terms.alike does };
-
-    // The definition satisfies `claim`.
-    ghost claimed: { (s : State) → Claimed (claim s) s does };
+    // input is the outcome of every longer input; and the outcomes agree with the grammar.
+    ghost lawful: { Meets terms does };
 }

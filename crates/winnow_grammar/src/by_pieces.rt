@@ -67,21 +67,25 @@ impl<
 
     ghost does = { N.does };
 
-    ghost terms = { record { premise = ⊤; stable = ⊤; alike = N.alike } };
-
-    ghost claim = { λ s. record {
+    ghost terms = { record {
       premise = ⊤;
-      backtracks = ⊤;
-      spares_memory = ⊥;
-      consumes = N.consumes s;
-      grammar = N.grammar s;
+      stable = ⊤;
+      alike = N.alike;
+      claim = λ s. record {
+        premise = ⊤;
+        backtracks = ⊤;
+        spares_memory = ⊥;
+        consumes = N.consumes s;
+        grammar = N.grammar s;
+      };
     } };
 
-    ghost lawful = { λ is. N.lawful };
-
-    ghost claimed = { λ s. record {
-      projects = λ at is. record { reads = N.reads at s; unique = N.unique s };
-      takes = λ is some. N.takes s some;
+    ghost lawful = { record {
+      law = λ is. N.lawful.law;
+      claimed = λ s. record {
+        projects = λ at is. record { reads = N.reads at s; unique = N.unique s };
+        takes = λ is some. N.takes s some;
+      };
     } };
 
     #[inline(always)]

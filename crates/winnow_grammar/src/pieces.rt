@@ -39,8 +39,8 @@ pub trait ReadsPieces<I: Stream, O, E: ParserError<I>>: Parser<I, O, E> {
     #[inline(always)]
     final fn read_cut(&mut self, input: &mut I) -> Result<O, E>
         requires callable { Self.can_parse self.old }
-        requires premise { (Self.claim (Self.state self.old)).premise }
-        requires backtracks { (Self.claim (Self.state self.old)).backtracks }
+        requires premise { (Self.terms.claim (Self.state self.old)).premise }
+        requires backtracks { (Self.terms.claim (Self.state self.old)).backtracks }
         requires lawful { Self.terms.premise }
         requires stable { Self.terms.stable }
         requires modal { E.form ≡ modal }
@@ -48,7 +48,7 @@ pub trait ReadsPieces<I: Stream, O, E: ParserError<I>>: Parser<I, O, E> {
         ensures ran { Ran I.reading Self.does E.form (Self.state self.old) (I.view input.old)
             (answer_by E.kind result) (Self.state self.new) (I.view input.new) }
         ensures reads { ReadsOrAsks I.reading I.following E.kind
-            (Self.claim (Self.state self.old)).grammar (I.view input.old) result
+            (Self.terms.claim (Self.state self.old)).grammar (I.view input.old) result
             (I.view input.new) }
         ensures tells { Tells I.reading Self.terms.alike Self.does E.form (Self.state self.old)
             (I.view input.old) (answer_by E.kind result) (Self.state self.new)

@@ -88,21 +88,21 @@ impl<N: Rule<I, O>, F: FnMut(&mut I) -> Result<O, E>, I: Stream, O, E: ParserErr
 
     ghost does = { ByDoes I.view E.kind (CalledAtMut F.FnMut) };
 
-    ghost terms = { func_terms I.view E.kind (beside (λ (n : N). CalledAtMut F.FnMut)) };
+    ghost terms = { func_terms I.view E.kind (beside (λ (n : N). CalledAtMut F.FnMut))
+        (λ s. record {
+          premise = CallsRead I.reading I.view E.kind (CalledAtMut F.FnMut) (N.grammar s.0) s.1;
+          backtracks = ⊤;
+          spares_memory = CallsSpared I.view E.kind (CalledAtMut F.FnMut) s.1;
+          consumes = N.consumes s.0;
+          grammar = N.grammar s.0;
+        }) };
 
-    ghost claim = { λ s. record {
-      premise = CallsRead I.reading I.view E.kind (CalledAtMut F.FnMut) (N.grammar s.0) s.1;
-      backtracks = ⊤;
-      spares_memory = CallsSpared I.view E.kind (CalledAtMut F.FnMut) s.1;
-      consumes = N.consumes s.0;
-      grammar = N.grammar s.0;
-    } };
-
-    ghost lawful = { λ is. func_lawful I.view E.kind is };
-
-    ghost claimed = { λ s. record {
-      projects = λ at is. by_projects s is (N.unique s.0);
-      takes = λ is some. N.takes s.0 some;
+    ghost lawful = { record {
+      law = λ is. func_lawful I.view E.kind is;
+      claimed = λ s. record {
+        projects = λ at is. by_projects s is (N.unique s.0);
+        takes = λ is some. N.takes s.0 some;
+      };
     } };
 
     #[inline(always)]

@@ -32,17 +32,17 @@ pub trait ReadsSpanned<I: Location, O, E: ParserError<I>>: Parser<I, O, E> {
     #[inline(always)]
     final fn read_spanned(&mut self, input: &mut I) -> Result<(O, Range<usize>), E>
         requires callable { Self.can_parse self.old }
-        requires premise { (Self.claim (Self.state self.old)).premise }
-        requires backtracks { (Self.claim (Self.state self.old)).backtracks }
+        requires premise { (Self.terms.claim (Self.state self.old)).premise }
+        requires backtracks { (Self.terms.claim (Self.state self.old)).backtracks }
         ensures again { Self.can_parse self.new }
         ensures ran { Ran I.reading Self.does E.form (Self.state self.old) (I.view input.old)
             (answer_by E.kind (output_alone result)) (Self.state self.new) (I.view input.new) }
         ensures kept { (I.view input.old).status.cut ≡ false
             → UnlessWanted E.kind result (Self.state self.new ≡ Self.state self.old) }
-        ensures reads { Reads I.reading E.kind (Self.claim (Self.state self.old)).grammar
+        ensures reads { Reads I.reading E.kind (Self.terms.claim (Self.state self.old)).grammar
             (I.view input.old) (output_alone result) (I.view input.new) }
         ensures between { IsBetween (I.view input.old) result (I.view input.new) }
-        ensures spared { (Self.claim (Self.state self.old)).spares_memory
+        ensures spared { (Self.terms.claim (Self.state self.old)).spares_memory
             → IsSpared E.kind (I.view input.old) result }
     {
         let start = input.current_token_start();

@@ -10,7 +10,7 @@ use Rattle.streams.specs.Reading.{Reading}
 use Rattle.stream_errors.specs.Form.{Answer, ErrorForm, answer_by}
 use Rattle.grammars.specs.Grammar.{Each, Grammar, IsUnique, Many, TakesTokens}
 use Rattle.grammars.specs.Grammar.Unique.{no_more}
-use Rattle.parser_definitions.specs.Claim.{Claim, Claimed}
+use Rattle.parser_definitions.specs.Terms.{Claim, Claimed}
 use Rattle.parser_definitions.specs.Does.{Ran}
 use Rattle.parser_definitions.specs.Left.{left_of}
 use Rattle.parser_definitions.specs.Outcome.{Does, outcome_of}

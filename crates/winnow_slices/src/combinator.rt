@@ -64,12 +64,13 @@ where
         (IntoSliceDoes (TooManyKind E.external_gives) P.does) E.form
         (P.state parser.old, slice.old) (I.view input.old) (answer_by E.kind result)
         (P.state parser.new, slice.new) (I.view input.new) }
-    ensures reads { (P.claim (P.state parser.old)).premise
-        → (P.claim (P.state parser.old)).backtracks → (P.claim (P.state parser.old)).consumes
+    ensures reads { (P.terms.claim (P.state parser.old)).premise
+        → (P.terms.claim (P.state parser.old)).backtracks
+        → (P.terms.claim (P.state parser.old)).consumes
         → (I.view input.old).status.cut ≡ false
         → UnlessWanted E.kind result (P.state parser.new ≡ P.state parser.old)
-        × ReadsIntoSlice (P.claim (P.state parser.old)).grammar
-        (P.claim (P.state parser.old)).spares_memory (TooManyKind E.external_gives) slice.old
+        × ReadsIntoSlice (P.terms.claim (P.state parser.old)).grammar
+        (P.terms.claim (P.state parser.old)).spares_memory (TooManyKind E.external_gives) slice.old
         (I.view input.old).left.tokens (answer_by E.kind result) slice.new
         (I.view input.new).left.tokens }
 {

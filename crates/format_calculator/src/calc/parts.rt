@@ -1,10 +1,9 @@
 //! The parsers of numbers and operators.
-ghost use Rattle.parser_definitions.specs.Claim.{no_claim, nothing_claimed};
+ghost use Rattle.parser_definitions.specs.Terms.{meets_no_terms, no_terms};
 ghost use Rattle.std.specs.Prelude.{⊤};
 ghost use Rattle.winnow_expression_trees.specs.Items.{ItemDoes};
 ghost use Rattle.format_calculator.specs.Calculator.{CharItem, NumberItem, mark_at, pair_at};
 ghost use Rattle.format_calculator.specs.Calculator.{sign_at};
-ghost use Rattle.winnow_core.specs.Covers.{no_terms};
 
 use crate::calc::items::{read_mark, read_number, read_pair, read_sign};
 use crate::calc::operators::{Mark, Pair, Sign};
@@ -26,11 +25,7 @@ impl<'i> Parser<&'i str, i64, EmptyError> for Number {
 
     ghost terms = { no_terms };
 
-    ghost claim = { λ _. no_claim };
-
-    ghost lawful = { λ never. absurd never };
-
-    ghost claimed = { λ _. nothing_claimed };
+    ghost lawful = { meets_no_terms };
 
     fn parse_next(&mut self, input: &mut &'i str) -> Result<i64, EmptyError> {
         match read_number(input) {
@@ -53,11 +48,7 @@ impl<'i> Parser<&'i str, Prefix<Sign>, EmptyError> for BeforeIt {
 
     ghost terms = { no_terms };
 
-    ghost claim = { λ _. no_claim };
-
-    ghost lawful = { λ never. absurd never };
-
-    ghost claimed = { λ _. nothing_claimed };
+    ghost lawful = { meets_no_terms };
 
     fn parse_next(&mut self, input: &mut &'i str) -> Result<Prefix<Sign>, EmptyError> {
         match read_sign(input) {
@@ -80,11 +71,7 @@ impl<'i> Parser<&'i str, Postfix<Mark>, EmptyError> for BehindIt {
 
     ghost terms = { no_terms };
 
-    ghost claim = { λ _. no_claim };
-
-    ghost lawful = { λ never. absurd never };
-
-    ghost claimed = { λ _. nothing_claimed };
+    ghost lawful = { meets_no_terms };
 
     fn parse_next(&mut self, input: &mut &'i str) -> Result<Postfix<Mark>, EmptyError> {
         match read_mark(input) {
@@ -107,11 +94,7 @@ impl<'i> Parser<&'i str, Infix<Pair>, EmptyError> for BetweenThem {
 
     ghost terms = { no_terms };
 
-    ghost claim = { λ _. no_claim };
-
-    ghost lawful = { λ never. absurd never };
-
-    ghost claimed = { λ _. nothing_claimed };
+    ghost lawful = { meets_no_terms };
 
     fn parse_next(&mut self, input: &mut &'i str) -> Result<Infix<Pair>, EmptyError> {
         match read_pair(input) {

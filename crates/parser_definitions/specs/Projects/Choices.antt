@@ -6,8 +6,8 @@ use Rattle.grammars.specs.Grammar.{Ahead, Either, Grammar, IsUnique, NoMatch, No
 use Rattle.grammars.specs.Grammar.{When}
 use Rattle.grammars.specs.Grammar.Unique.{ahead_unique, either_takes, either_unique}
 use Rattle.grammars.specs.Grammar.Unique.{optional_unique}
-use Rattle.parser_definitions.specs.Alt.{AltDoes}
-use Rattle.parser_definitions.specs.Claim.{Claim, Claimed}
+use Rattle.parser_definitions.specs.Alt.{AltDoes, alt_law}
+use Rattle.parser_definitions.specs.Equal.{AlikeEither}
 use Rattle.parser_definitions.specs.Opt.{OptDoes}
 use Rattle.parser_definitions.specs.Outcome.{Does}
 use Rattle.parser_definitions.specs.Peek.{CondDoes, CutErrDoes, IsNotCalled, NotDoes}
@@ -17,6 +17,7 @@ use Rattle.parser_definitions.specs.Projects.{reads_given, reads_takes}
 use Rattle.parser_definitions.specs.Projects.Then.{cuts_read, cuts_read_start, else_reads, in_reads}
 use Rattle.parser_definitions.specs.Projects.Then.{start_reads, takes_none_reads, takes_reads}
 use Rattle.parser_definitions.specs.Projects.Then.{then_reads, where_reads}
+use Rattle.parser_definitions.specs.Terms.{Meets, Terms}
 use Rattle.parser_definitions.specs.Then.Steps.{instead, second, with_first}
 use Rattle.parser_definitions.specs.Then.Steps.{with_second}
 
@@ -139,22 +140,33 @@ alt_projects {g = g} {h} soft p1 p2 = record {
   unique = either_unique p1.unique p2.unique;
 }
 
--- one or the other
-abbrev pub or_else_claim : {T O : Type 0} → Claim T O → Claim T O → Claim T O
-or_else_claim first others = record {
-  premise = first.premise × first.backtracks × others.premise;
-  backtracks = others.backtracks;
-  spares_memory = first.spares_memory × others.spares_memory;
-  consumes = first.consumes × others.consumes;
-  grammar = Either first.grammar others.grammar;
+-- ---- `alt` of two
+
+-- The terms of a choice: those of the branch and of the others.
+abbrev pub alt_terms : {S1 S2 T O : Type 0} → Terms S1 T O → Terms S2 T O → Terms (S1 × S2) T O
+alt_terms one others = record {
+  premise = one.premise × others.premise;
+  stable = one.stable × others.stable;
+  alike = AlikeEither one.alike others.alike;
+  claim = λ s. record {
+    premise = (one.claim s.0).premise × (one.claim s.0).backtracks × (others.claim s.1).premise;
+    backtracks = (others.claim s.1).backtracks;
+    spares_memory = (one.claim s.0).spares_memory × (others.claim s.1).spares_memory;
+    consumes = (one.claim s.0).consumes × (others.claim s.1).consumes;
+    grammar = Either (one.claim s.0).grammar (others.claim s.1).grammar;
+  };
 }
 
--- that is kept
-pub or_else_claimed : {S1 S2 T O : Type 0} {c1 c2 : Claim T O} {does1 : Does S1 T O}
-    {does2 : Does S2 T O} {s : S1 × S2} → Claimed c1 s.0 does1 → Claimed c2 s.1 does2
-    → Claimed (or_else_claim c1 c2) s (AltDoes does1 does2)
-or_else_claimed first others = record {
-  projects = λ at is. alt_projects is.1 (projects_as (λ b. b) (λ m. m.0) (first.projects at is.0))
-      (projects_as (λ b. b) (λ m. m.1) (others.projects at is.2));
-  takes = λ is some. either_takes (first.takes is.0 some.0) (others.takes is.2 some.1);
+pub alt_meets : {S1 S2 T O : Type 0} {terms1 : Terms S1 T O} {terms2 : Terms S2 T O}
+    {does1 : Does S1 T O} {does2 : Does S2 T O} → Meets terms1 does1 → Meets terms2 does2
+    → Meets (alt_terms terms1 terms2) (AltDoes does1 does2)
+alt_meets one others = record {
+  law = λ is. alt_law (one.law is.0) (others.law is.1);
+  claimed = λ s. record {
+    projects = λ at is. alt_projects is.1
+        (projects_as (λ b. b) (λ m. m.0) ((one.claimed s.0).projects at is.0))
+        (projects_as (λ b. b) (λ m. m.1) ((others.claimed s.1).projects at is.2));
+    takes = λ is some. either_takes ((one.claimed s.0).takes is.0 some.0)
+        ((others.claimed s.1).takes is.2 some.1);
+  };
 }

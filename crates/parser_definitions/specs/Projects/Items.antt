@@ -7,7 +7,6 @@ use Rattle.grammars.specs.Grammar.{Either, Grammar, Never}
 use Rattle.grammars.specs.Grammar.FirstOf.{FirstFrom, FirstOf, first_of_takes}
 use Rattle.grammars.specs.Grammar.Unique.{either_unique}
 use Rattle.parser_definitions.specs.AltMany.{ChoiceDoes, or_rest, with_head}
-use Rattle.parser_definitions.specs.Claim.{Claim, Claimed}
 use Rattle.parser_definitions.specs.Left.{End, back}
 use Rattle.parser_definitions.specs.Moved.{in_state}
 use Rattle.parser_definitions.specs.Outcome.{Does, Outcome, asks, backs, cuts, took, wants}
@@ -15,6 +14,7 @@ use Rattle.parser_definitions.specs.Projects.{Agreement, Agrees, Complete, Proje
 use Rattle.parser_definitions.specs.Projects.{agrees_by, misused_agrees, projects_as}
 use Rattle.parser_definitions.specs.Projects.Choices.{no_either}
 use Rattle.parser_definitions.specs.Projects.Then.{NextReads, other_agrees, takes_reads, then_reads}
+use Rattle.parser_definitions.specs.Terms.{Claim, Claimed}
 
 -- the child's outcome, in the whole's state
 put_agrees : {S Q T O : Type 0} {b m : Type 0} (put : S → Q) {s : S} {q : Q} (g : Grammar T O)

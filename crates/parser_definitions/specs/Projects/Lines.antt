@@ -9,8 +9,7 @@ use Rattle.grammars.specs.Grammar.{Class, Either, InClass, Literally, NoMatch, S
 use Rattle.grammars.specs.Grammar.Searches.{Line, LineEnd, LiterallyBytes}
 use Rattle.grammars.specs.Grammar.Searches.Unique.{line_unique, one_line}
 use Rattle.grammars.specs.Grammar.Unique.{either_unique, literally_unique}
-use Rattle.parser_definitions.specs.Claim.{Claim, Claimed}
-use Rattle.parser_definitions.specs.Class.{CharIsFunction, ClassDoes, class_once}
+use Rattle.parser_definitions.specs.Class.{CharIsFunction, ClassDoes, class_law, class_once}
 use Rattle.parser_definitions.specs.LineEnding.{LineEndingDoes, SpellsAsMany, SpellsByText}
 use Rattle.parser_definitions.specs.LineEnding.{TextDoes}
 use Rattle.parser_definitions.specs.Projects.{Complete, Projects, complete, reads_after}
@@ -19,6 +18,8 @@ use Rattle.parser_definitions.specs.Projects.Literals.{literal_projects}
 use Rattle.parser_definitions.specs.Projects.Then.{else_reads, other_agrees}
 use Rattle.parser_definitions.specs.Projects.Then.{takes_reads, then_reads}
 use Rattle.parser_definitions.specs.Projects.Tokens.{longest_takes, take_while_projects}
+use Rattle.parser_definitions.specs.Spelled.{ShowSame}
+use Rattle.parser_definitions.specs.Terms.{Meets, Terms}
 use Rattle.parser_definitions.specs.Then.Steps.{instead}
 use Rattle.parser_definitions.specs.TillLineEnding.{HasBoth, HasReturn, IsLine, IsLone}
 use Rattle.parser_definitions.specs.TillLineEnding.{IsOpenLine, IsWholeLine, LacksEnd}
@@ -113,26 +114,34 @@ module _ {S T L : Type 0} {b m : Type 0} {at : Complete} {s : S} (reading : Read
 
 -- ---- classes of characters
 
--- The claim of a class: its longest prefix of at least `least` characters.
-abbrev pub class_claim : {K T L : Type 0} → Type 0 → (ℕ → Type 0) → ℕ → (K → ℕ) → (K → T)
-    → Reading T L → Claim T L
-class_claim consumes class least code seen reading = record {
+-- The terms of a class: its longest prefix of at least `least` characters.
+abbrev pub class_terms : {S K T L : Type 0} → Type 0 → (ℕ → Type 0) → ℕ → (K → ℕ) → (K → T)
+    → Reading T L → Terms S T L
+class_terms consumes class least code seen reading = record {
   premise = CharIsFunction seen code;
-  backtracks = ⊤;
-  spares_memory = ⊤;
-  consumes = consumes;
-  grammar = Class class least code seen reading;
+  stable = ⊤;
+  alike = ShowSame reading;
+  claim = λ s. record {
+    premise = CharIsFunction seen code;
+    backtracks = ⊤;
+    spares_memory = ⊤;
+    consumes = consumes;
+    grammar = Class class least code seen reading;
+  };
 }
 
-pub class_claimed : {S K T L : Type 0} {s : S} {consumes : Type 0} (class : ℕ → Type 0)
-    (least : ℕ) (code : K → ℕ) (seen : K → T) (reading : Reading T L) → (consumes → 0 < least)
-    → Claimed (class_claim consumes class least code seen reading) s
+pub class_meets : {S K T L : Type 0} {consumes : Type 0} (class : ℕ → Type 0) (least : ℕ)
+    (code : K → ℕ) (seen : K → T) (reading : Reading T L) → (consumes → 0 < least)
+    → Meets {S = S} (class_terms consumes class least code seen reading)
     (ClassDoes class least code seen reading)
-class_claimed {s = s} class least code seen reading some = record {
-  projects = λ at once. take_while_projects reading seen (InClass class code) (λ _. tt)
-      (λ _. from_to least None) (class_once class least code seen reading once s) tt;
-  takes = λ once consumes. longest_takes reading seen (InClass class code) tt
-      (from_to least None) (some consumes);
+class_meets class least code seen reading some = record {
+  law = λ once. class_law class least code seen reading once;
+  claimed = λ s. record {
+    projects = λ at once. take_while_projects reading seen (InClass class code) (λ _. tt)
+        (λ _. from_to least None) (class_once class least code seen reading once s) tt;
+    takes = λ once consumes. longest_takes reading seen (InClass class code) tt
+        (from_to least None) (some consumes);
+  };
 }
 
 -- one is at least one

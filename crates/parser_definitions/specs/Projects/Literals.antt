@@ -1,26 +1,33 @@
--- Grammars of literals, `eof`, `empty` and `fail`, and the claim of literals.
+-- Grammars of literals, `eof`, `empty` and `fail`, and the terms of literals.
 use Rattle.std.specs.Prelude.{◌≡◌, ⊤, List, [], None}
 use Rattle.std.proofs.Common.{refl, sym, ap, ◌∙◌}
 use Rattle.streams.specs.Equal.{true_is_false}
 use Rattle.streams.specs.Reading.{Reading}
 use Rattle.grammars.specs.Grammar.{Literally, Never, NoTokens, Nothing, TakesTokens}
 use Rattle.grammars.specs.Grammar.Unique.{literally_takes, literally_unique, unique_nothing}
-use Rattle.parser_definitions.specs.Claim.{Claim, Claimed}
 use Rattle.parser_definitions.specs.Eof.{ConsumesNone, EmptyDoes, EofDoes, FailDoes, IsAtEnd}
 use Rattle.parser_definitions.specs.Eof.{SomeRemain}
 use Rattle.parser_definitions.specs.Literal.{IsLiteral, IsOther, IsPartial, LiteralDoes}
+use Rattle.parser_definitions.specs.Literal.{literal_law}
 use Rattle.parser_definitions.specs.Projects.{Complete, Projects, reads_cases, reads_fails}
 use Rattle.parser_definitions.specs.Projects.{reads_lacks, reads_takes}
+use Rattle.parser_definitions.specs.Spelled.{ShowSame}
+use Rattle.parser_definitions.specs.Terms.{Meets, Terms}
 
--- A literal with the spellings `spells`; `output` computes its output.
-abbrev pub literal_claim : {S T L O : Type 0} → Reading T L → (S → List T → Type 0)
-    → (S → L → O) → S → Claim T O
-literal_claim reading spells output s = record {
+-- The terms of a literal with the spellings `spells`. `output` computes its output.
+abbrev pub literal_terms : {S T L O : Type 0} → Reading T L → (S → List T → Type 0)
+    → (S → L → O) → (O → O → Type 0) → Terms S T O
+literal_terms reading spells output alike = record {
   premise = ⊤;
-  backtracks = ⊤;
-  spares_memory = ⊤;
-  consumes = spells s [] → ⊥;
-  grammar = Literally reading spells output s;
+  stable = ⊤;
+  alike = alike;
+  claim = λ s. record {
+    premise = ⊤;
+    backtracks = ⊤;
+    spares_memory = ⊤;
+    consumes = spells s [] → ⊥;
+    grammar = Literally reading spells output s;
+  };
 }
 
 module _ {T S L O : Type 0} (reading : Reading T L) (spells : S → List T → Type 0)
@@ -44,12 +51,17 @@ module _ {T S L O : Type 0} (reading : Reading T L) (spells : S → List T → T
     unique = literally_unique reading spells output (literal x) same_units;
   }
 
-  pub literal_claimed : (s : S) → ((xs ys : List T) → spells s xs → spells s ys
+  pub literal_meets : (alike : O → O → Type 0)
+      → ((s : S) (xs ys : List T) → spells s xs → spells s ys
       → reading.units xs ≡ reading.units ys)
-      → Claimed (literal_claim reading spells output s) s (LiteralDoes reading spells output)
-  literal_claimed s same_units = record {
-    projects = λ at is. literal_projects (λ y. y) s same_units;
-    takes = λ is some. literally_takes reading spells output s some;
+      → ((s : S) (u v : L) → ShowSame reading u v → alike (output s u) (output s v))
+      → Meets (literal_terms reading spells output alike) (LiteralDoes reading spells output)
+  literal_meets alike same_units shown = record {
+    law = λ is. literal_law reading spells output alike same_units shown;
+    claimed = λ s. record {
+      projects = λ at is. literal_projects (λ y. y) s (same_units s);
+      takes = λ is some. literally_takes reading spells output s some;
+    };
   }
 
 module _ {S T b m : Type 0} {at : Complete} {s : S} where

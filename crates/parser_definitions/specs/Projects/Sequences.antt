@@ -6,7 +6,6 @@ use Rattle.grammars.specs.Grammar.{Both, Grammar, Made, Three}
 use Rattle.grammars.specs.Grammar.Sequences.{three_take, three_unique}
 use Rattle.grammars.specs.Grammar.Unique.{both_take, both_unique, made_unique}
 use Rattle.parser_definitions.specs.Both.{BothDo}
-use Rattle.parser_definitions.specs.Claim.{Claim, Claimed}
 use Rattle.parser_definitions.specs.Outcome.{Does}
 use Rattle.parser_definitions.specs.Projects.{Complete, Projects, Reads, projects_as}
 use Rattle.parser_definitions.specs.Projects.Functions.{in_projects}
@@ -14,6 +13,7 @@ use Rattle.parser_definitions.specs.Projects.Then.{behind_reads, takes_reads}
 use Rattle.parser_definitions.specs.Projects.Then.{then_reads, where_reads}
 use Rattle.parser_definitions.specs.Sequence.{SequenceDoes1, ThreeDo, one_with, second3, third3}
 use Rattle.parser_definitions.specs.Sequence.{with_first3, with_second3, with_third3}
+use Rattle.parser_definitions.specs.Terms.{Claim, Claimed}
 use Rattle.parser_definitions.specs.Then.{Then}
 use Rattle.parser_definitions.specs.Then.Steps.{In, first, second, takes, then_next, where_took}
 use Rattle.parser_definitions.specs.Then.Steps.{with_first, with_second}

@@ -1,6 +1,6 @@
 -- Inversion lemmas about a result: an output is not an error, and there is one output or one kind.
 use Rattle.std.specs.Prelude.{◌≡◌, Ok, Err}
-use Rattle.std.proofs.Common.{ap, ◌∙◌, subst, sym}
+use Rattle.std.proofs.Common.{subst, sym}
 use Rattle.streams.specs.Kind.{Kind}
 use Rattle.stream_errors.specs.Form.{Answer}
 
@@ -27,7 +27,3 @@ at_output P e told = subst P (sym (same_output e)) told
 pub at_kind : {O : Type 0} {k l : Kind} (P : Kind → Type 0) → ◌≡◌ {A = Answer O} (Err k) (Err l)
     → P l → P k
 at_kind P e told = subst P (sym (same_kind e)) told
-
-pub fails_as : {O P : Type 0} {answer : Answer O} {inner : Answer P} {k l m : Kind}
-    → answer ≡ Err k → inner ≡ Err k → inner ≡ Err l → l ≡ m → answer ≡ Err m
-fails_as e f g is = e ∙ ap Err (same_err f g ∙ is)

@@ -2,11 +2,12 @@
 use Rattle.std.specs.Prelude.{◌≡◌, Bool, true, List, Result, Ok}
 use Rattle.streams.specs.Input.{Input, with_more}
 use Rattle.streams.specs.Kind.{Kind}
-use Rattle.parser_definitions.specs.Does.{Lawful, Terms}
+use Rattle.parser_definitions.specs.Does.{Lawful}
 use Rattle.parser_definitions.specs.Func as functions
 use Rattle.parser_definitions.specs.Func.{FuncDoes, FuncLaws, call_outcome}
 use Rattle.parser_definitions.specs.Func.{func_law}
 use Rattle.parser_definitions.specs.Outcome.{IsFinal, longer}
+use Rattle.parser_definitions.specs.Terms.{Claim, Terms}
 
 -- ---- functions
 
@@ -31,11 +32,12 @@ CallsStay {F} {I} {T} {O} {E} view kind called =
 -- State and input determine each call of the function, and on complete input none is incomplete.
 -- The parser is stable if final results are unchanged on longer inputs.
 abbrev pub func_terms : {F I T O E : Type 0} → (I → Input T) → (E → Kind)
-    → functions.Calls F I O E → Terms O
-func_terms view kind called = record {
+    → functions.Calls F I O E → (F → Claim T O) → Terms F T O
+func_terms view kind called claim = record {
   premise = FuncLaws ⊥ (CallsAlike view called) view kind called;
   stable = CallsStay view kind called;
   alike = CallsAlike view called;
+  claim = claim;
 }
 
 module _ {F I T O E : Type 0} (view : I → Input T) (kind : E → Kind) where

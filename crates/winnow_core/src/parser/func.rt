@@ -1,7 +1,7 @@
 //! Closures as parsers.
 ghost use Rattle.std.specs.Fn.{CalledAtMut};
 ghost use Rattle.parser_definitions.specs.Func.{FuncDoes, FuncWithDoes, beside};
-ghost use Rattle.parser_definitions.specs.Claim.{no_claim, nothing_claimed};
+ghost use Rattle.parser_definitions.specs.Terms.{no_claim, nothing_claimed};
 ghost use Rattle.winnow_core.specs.Covers.Functions.{func_lawful, func_terms};
 ghost use Rattle.winnow_core.specs.Func.{CalledWithMut, LeavesEndsFrom};
 
@@ -59,13 +59,13 @@ impl<F: FnMut(&mut I) -> Result<O, E>, I: Stream, O, E: ParserError<I>> Parser<I
 
     ghost does = { FuncDoes I.view E.kind (CalledAtMut F.FnMut) };
 
-    ghost terms = { func_terms I.view E.kind (CalledAtMut F.FnMut) };
+    ghost terms = { func_terms I.view E.kind (CalledAtMut F.FnMut)
+        (λ _. no_claim) };
 
-    ghost claim = { λ _. no_claim };
-
-    ghost lawful = { λ is. func_lawful I.view E.kind is };
-
-    ghost claimed = { λ _. nothing_claimed };
+    ghost lawful = { record {
+      law = λ is. func_lawful I.view E.kind is;
+      claimed = λ _. nothing_claimed;
+    } };
 
     #[inline(always)]
     fn parse_next(&mut self, input: &mut I) -> Result<O, E> {
@@ -105,13 +105,13 @@ impl<A: Copy, F: FnMut(A, &mut I) -> Result<O, E>, I: Stream, O, E: ParserError<
 
     ghost does = { FuncWithDoes I.view E.kind (CalledWithMut F.FnMut) };
 
-    ghost terms = { func_terms I.view E.kind (beside (CalledWithMut F.FnMut)) };
+    ghost terms = { func_terms I.view E.kind (beside (CalledWithMut F.FnMut))
+        (λ _. no_claim) };
 
-    ghost claim = { λ _. no_claim };
-
-    ghost lawful = { λ is. func_lawful I.view E.kind is };
-
-    ghost claimed = { λ _. nothing_claimed };
+    ghost lawful = { record {
+      law = λ is. func_lawful I.view E.kind is;
+      claimed = λ _. nothing_claimed;
+    } };
 
     #[inline(always)]
     fn parse_next(&mut self, input: &mut I) -> Result<O, E> {

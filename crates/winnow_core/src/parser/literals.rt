@@ -1,8 +1,8 @@
 //! Values that are parsers of themselves.
 ghost use Rattle.std.specs.Prelude.{◌≡◌, ⊤};
 ghost use Rattle.std.proofs.Common.{refl};
-ghost use Rattle.parser_definitions.specs.Literal.{LiteralDoes, literal_law};
-ghost use Rattle.parser_definitions.specs.Projects.Literals.{literal_claim, literal_claimed};
+ghost use Rattle.parser_definitions.specs.Literal.{LiteralDoes};
+ghost use Rattle.parser_definitions.specs.Projects.Literals.{literal_meets, literal_terms};
 ghost use Rattle.parser_definitions.specs.Spelled.{ShowSame};
 
 use crate::literal::take_literal;
@@ -23,14 +23,10 @@ impl<I: StreamIsPartial + Compare<u8>, E: ParserError<I>> Parser<I, u8, E> for u
 
     ghost does = { LiteralDoes I.reading I.spells (λ s _. s) };
 
-    ghost terms = { record { premise = ⊤; stable = ⊤; alike = λ o p. o ≡ p } };
+    ghost terms = { literal_terms I.reading I.spells (λ s _. s) (λ o p. o ≡ p) };
 
-    ghost claim = { literal_claim I.reading I.spells (λ s _. s) };
-
-    ghost lawful = { λ is. literal_law I.reading I.spells (λ s _. s)
-        (λ o p. o ≡ p) I.same_units (λ s v w x. refl) };
-
-    ghost claimed = { λ s. literal_claimed I.reading I.spells (λ s _. s) s (I.same_units s) };
+    ghost lawful = { literal_meets I.reading I.spells (λ s _. s) (λ o p. o ≡ p)
+        I.same_units (λ s v w x. refl) };
 
     #[inline(always)]
     fn parse_next(&mut self, input: &mut I) -> Result<u8, E> {
@@ -50,15 +46,10 @@ impl<'t, I: StreamIsPartial + Compare<&'t [u8]>, E: ParserError<I>> Parser<I, I:
 
     ghost does = { LiteralDoes I.reading I.spells (λ _ slice. slice) };
 
-    ghost terms = { record { premise = ⊤; stable = ⊤; alike = ShowSame I.reading } };
+    ghost terms = { literal_terms I.reading I.spells (λ _ slice. slice) (ShowSame I.reading) };
 
-    ghost claim = { literal_claim I.reading I.spells (λ _ slice. slice) };
-
-    ghost lawful = { λ is. literal_law I.reading I.spells (λ _ slice. slice)
-        (ShowSame I.reading) I.same_units (λ s v w x. x) };
-
-    ghost claimed = { λ s. literal_claimed I.reading I.spells (λ _ slice. slice) s
-        (I.same_units s) };
+    ghost lawful = { literal_meets I.reading I.spells (λ _ slice. slice) (ShowSame I.reading)
+        I.same_units (λ s v w x. x) };
 
     #[inline(always)]
     fn parse_next(&mut self, input: &mut I) -> Result<I::Slice, E> {
@@ -78,15 +69,10 @@ impl<'t, const N: usize, I: StreamIsPartial + Compare<&'t [u8; N]>, E: ParserErr
 
     ghost does = { LiteralDoes I.reading I.spells (λ _ slice. slice) };
 
-    ghost terms = { record { premise = ⊤; stable = ⊤; alike = ShowSame I.reading } };
+    ghost terms = { literal_terms I.reading I.spells (λ _ slice. slice) (ShowSame I.reading) };
 
-    ghost claim = { literal_claim I.reading I.spells (λ _ slice. slice) };
-
-    ghost lawful = { λ is. literal_law I.reading I.spells (λ _ slice. slice)
-        (ShowSame I.reading) I.same_units (λ s v w x. x) };
-
-    ghost claimed = { λ s. literal_claimed I.reading I.spells (λ _ slice. slice) s
-        (I.same_units s) };
+    ghost lawful = { literal_meets I.reading I.spells (λ _ slice. slice) (ShowSame I.reading)
+        I.same_units (λ s v w x. x) };
 
     #[inline(always)]
     fn parse_next(&mut self, input: &mut I) -> Result<I::Slice, E> {
@@ -105,14 +91,10 @@ impl<I: StreamIsPartial + Compare<char>, E: ParserError<I>> Parser<I, char, E> f
 
     ghost does = { LiteralDoes I.reading I.spells (λ s _. s) };
 
-    ghost terms = { record { premise = ⊤; stable = ⊤; alike = λ o p. o ≡ p } };
+    ghost terms = { literal_terms I.reading I.spells (λ s _. s) (λ o p. o ≡ p) };
 
-    ghost claim = { literal_claim I.reading I.spells (λ s _. s) };
-
-    ghost lawful = { λ is. literal_law I.reading I.spells (λ s _. s)
-        (λ o p. o ≡ p) I.same_units (λ s v w x. refl) };
-
-    ghost claimed = { λ s. literal_claimed I.reading I.spells (λ s _. s) s (I.same_units s) };
+    ghost lawful = { literal_meets I.reading I.spells (λ s _. s) (λ o p. o ≡ p)
+        I.same_units (λ s v w x. refl) };
 
     #[inline(always)]
     fn parse_next(&mut self, input: &mut I) -> Result<char, E> {
@@ -132,15 +114,10 @@ impl<'t, I: StreamIsPartial + Compare<&'t str>, E: ParserError<I>> Parser<I, I::
 
     ghost does = { LiteralDoes I.reading I.spells (λ _ slice. slice) };
 
-    ghost terms = { record { premise = ⊤; stable = ⊤; alike = ShowSame I.reading } };
+    ghost terms = { literal_terms I.reading I.spells (λ _ slice. slice) (ShowSame I.reading) };
 
-    ghost claim = { literal_claim I.reading I.spells (λ _ slice. slice) };
-
-    ghost lawful = { λ is. literal_law I.reading I.spells (λ _ slice. slice)
-        (ShowSame I.reading) I.same_units (λ s v w x. x) };
-
-    ghost claimed = { λ s. literal_claimed I.reading I.spells (λ _ slice. slice) s
-        (I.same_units s) };
+    ghost lawful = { literal_meets I.reading I.spells (λ _ slice. slice) (ShowSame I.reading)
+        I.same_units (λ s v w x. x) };
 
     #[inline(always)]
     fn parse_next(&mut self, input: &mut I) -> Result<I::Slice, E> {
@@ -157,15 +134,10 @@ impl<'t, I: StreamIsPartial + Compare<Caseless<&'t [u8]>>, E: ParserError<I>> Pa
 
     ghost does = { LiteralDoes I.reading I.spells (λ _ slice. slice) };
 
-    ghost terms = { record { premise = ⊤; stable = ⊤; alike = ShowSame I.reading } };
+    ghost terms = { literal_terms I.reading I.spells (λ _ slice. slice) (ShowSame I.reading) };
 
-    ghost claim = { literal_claim I.reading I.spells (λ _ slice. slice) };
-
-    ghost lawful = { λ is. literal_law I.reading I.spells (λ _ slice. slice)
-        (ShowSame I.reading) I.same_units (λ s v w x. x) };
-
-    ghost claimed = { λ s. literal_claimed I.reading I.spells (λ _ slice. slice) s
-        (I.same_units s) };
+    ghost lawful = { literal_meets I.reading I.spells (λ _ slice. slice) (ShowSame I.reading)
+        I.same_units (λ s v w x. x) };
 
     #[inline(always)]
     fn parse_next(&mut self, input: &mut I) -> Result<I::Slice, E> {
@@ -186,15 +158,10 @@ impl<
 
     ghost does = { LiteralDoes I.reading I.spells (λ _ slice. slice) };
 
-    ghost terms = { record { premise = ⊤; stable = ⊤; alike = ShowSame I.reading } };
+    ghost terms = { literal_terms I.reading I.spells (λ _ slice. slice) (ShowSame I.reading) };
 
-    ghost claim = { literal_claim I.reading I.spells (λ _ slice. slice) };
-
-    ghost lawful = { λ is. literal_law I.reading I.spells (λ _ slice. slice)
-        (ShowSame I.reading) I.same_units (λ s v w x. x) };
-
-    ghost claimed = { λ s. literal_claimed I.reading I.spells (λ _ slice. slice) s
-        (I.same_units s) };
+    ghost lawful = { literal_meets I.reading I.spells (λ _ slice. slice) (ShowSame I.reading)
+        I.same_units (λ s v w x. x) };
 
     #[inline(always)]
     fn parse_next(&mut self, input: &mut I) -> Result<I::Slice, E> {
@@ -211,15 +178,10 @@ impl<'t, I: StreamIsPartial + Compare<Caseless<&'t str>>, E: ParserError<I>> Par
 
     ghost does = { LiteralDoes I.reading I.spells (λ _ slice. slice) };
 
-    ghost terms = { record { premise = ⊤; stable = ⊤; alike = ShowSame I.reading } };
+    ghost terms = { literal_terms I.reading I.spells (λ _ slice. slice) (ShowSame I.reading) };
 
-    ghost claim = { literal_claim I.reading I.spells (λ _ slice. slice) };
-
-    ghost lawful = { λ is. literal_law I.reading I.spells (λ _ slice. slice)
-        (ShowSame I.reading) I.same_units (λ s v w x. x) };
-
-    ghost claimed = { λ s. literal_claimed I.reading I.spells (λ _ slice. slice) s
-        (I.same_units s) };
+    ghost lawful = { literal_meets I.reading I.spells (λ _ slice. slice) (ShowSame I.reading)
+        I.same_units (λ s v w x. x) };
 
     #[inline(always)]
     fn parse_next(&mut self, input: &mut I) -> Result<I::Slice, E> {

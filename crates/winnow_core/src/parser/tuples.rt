@@ -36,21 +36,21 @@ impl<I: Stream, E: ParserError<I>> Parser<I, (), E> for () {
       premise = ⊤;
       stable = ⊤;
       alike = λ o p. ⊤;
+      claim = λ s. record {
+        premise = ⊤;
+        backtracks = ⊤;
+        spares_memory = ⊤;
+        consumes = ⊥;
+        grammar = Nothing tt;
+      };
     } };
 
-    ghost claim = { λ s. record {
-      premise = ⊤;
-      backtracks = ⊤;
-      spares_memory = ⊤;
-      consumes = ⊥;
-      grammar = Nothing tt;
-    } };
-
-    ghost lawful = { λ is. empty_law };
-
-    ghost claimed = { λ s. record {
-      projects = λ at is. empty_projects;
-      takes = λ is never. absurd never;
+    ghost lawful = { record {
+      law = λ is. empty_law;
+      claimed = λ s. record {
+        projects = λ at is. empty_projects;
+        takes = λ is never. absurd never;
+      };
     } };
 
     #[inline(always)]
@@ -72,21 +72,21 @@ impl<I: Stream, O1, E: ParserError<I>, P1: Parser<I, O1, E>> Parser<I, (O1,), E>
       premise = P1.terms.premise;
       stable = P1.terms.stable;
       alike = AlikeOne P1.terms.alike;
+      claim = λ s. record {
+        premise = (P1.terms.claim s.0).premise;
+        backtracks = (P1.terms.claim s.0).backtracks;
+        spares_memory = (P1.terms.claim s.0).spares_memory;
+        consumes = (P1.terms.claim s.0).consumes;
+        grammar = Made OneTuple tt (P1.terms.claim s.0).grammar;
+      };
     } };
 
-    ghost claim = { λ s. record {
-      premise = (P1.claim s.0).premise;
-      backtracks = (P1.claim s.0).backtracks;
-      spares_memory = (P1.claim s.0).spares_memory;
-      consumes = (P1.claim s.0).consumes;
-      grammar = Made OneTuple tt (P1.claim s.0).grammar;
-    } };
-
-    ghost lawful = { λ is. sequence1_law (P1.lawful is) };
-
-    ghost claimed = { λ s. record {
-      projects = λ at is. one_projects ((P1.claimed s.0).projects at is);
-      takes = λ is some. made_of_takes OneTuple tt ((P1.claimed s.0).takes is some);
+    ghost lawful = { record {
+      law = λ is. sequence1_law (P1.lawful.law is);
+      claimed = λ s. record {
+        projects = λ at is. one_projects ((P1.lawful.claimed s.0).projects at is);
+        takes = λ is some. made_of_takes OneTuple tt ((P1.lawful.claimed s.0).takes is some);
+      };
     } };
 
     #[inline(always)]
@@ -113,13 +113,14 @@ impl<I: Stream, O1: Drop, O2, E: ParserError<I>, P1: Parser<I, O1, E>, P2: Parse
       premise = P1.terms.premise × P2.terms.premise;
       stable = P1.terms.stable × P2.terms.stable;
       alike = AlikePairs P1.terms.alike P2.terms.alike;
+      claim = λ s. both_claim (λ o1 o2. (o1, o2)) (P1.terms.claim s.0) (P2.terms.claim s.1);
     } };
 
-    ghost claim = { λ s. both_claim (λ o1 o2. (o1, o2)) (P1.claim s.0) (P2.claim s.1) };
-
-    ghost lawful = { λ is. pair_law (P1.lawful is.0) (P2.lawful is.1) };
-
-    ghost claimed = { λ s. both_claimed (λ o1 o2. (o1, o2)) (P1.claimed s.0) (P2.claimed s.1) };
+    ghost lawful = { record {
+      law = λ is. pair_law (P1.lawful.law is.0) (P2.lawful.law is.1);
+      claimed = λ s. both_claimed (λ o1 o2. (o1, o2)) (P1.lawful.claimed s.0)
+          (P2.lawful.claimed s.1);
+    } };
 
     #[inline(always)]
     fn parse_next(&mut self, input: &mut I) -> Result<(O1, O2), E> {
@@ -151,15 +152,15 @@ impl<
       premise = P1.terms.premise × P2.terms.premise × P3.terms.premise;
       stable = P1.terms.stable × P2.terms.stable × P3.terms.stable;
       alike = AlikeTriples P1.terms.alike P2.terms.alike P3.terms.alike;
+      claim = λ s. three_claim (λ o1 o2 o3. (o1, o2, o3)) (P1.terms.claim s.0)
+          (P2.terms.claim s.1) (P3.terms.claim s.2);
     } };
 
-    ghost claim = { λ s. three_claim (λ o1 o2 o3. (o1, o2, o3)) (P1.claim s.0) (P2.claim s.1)
-        (P3.claim s.2) };
-
-    ghost lawful = { λ is. sequence3_law (P1.lawful is.0) (P2.lawful is.1) (P3.lawful is.2) };
-
-    ghost claimed = { λ s. three_claimed (λ o1 o2 o3. (o1, o2, o3)) (P1.claimed s.0)
-        (P2.claimed s.1) (P3.claimed s.2) };
+    ghost lawful = { record {
+      law = λ is. sequence3_law (P1.lawful.law is.0) (P2.lawful.law is.1) (P3.lawful.law is.2);
+      claimed = λ s. three_claimed (λ o1 o2 o3. (o1, o2, o3)) (P1.lawful.claimed s.0)
+          (P2.lawful.claimed s.1) (P3.lawful.claimed s.2);
+    } };
 
     #[inline(always)]
     fn parse_next(&mut self, input: &mut I) -> Result<(O1, O2, O3), E> {
@@ -195,18 +196,18 @@ impl<
       premise = P1.terms.premise × P2.terms.premise × P3.terms.premise × P4.terms.premise;
       stable = (P1.terms.stable × P2.terms.stable × P3.terms.stable) × P4.terms.stable;
       alike = AlikeFour P1.terms.alike P2.terms.alike P3.terms.alike P4.terms.alike;
+      claim = λ s. both_claim join4
+          (three_claim (λ o1 o2 o3. (o1, o2, o3)) (P1.terms.claim s.0) (P2.terms.claim s.1)
+          (P3.terms.claim s.2)) (P4.terms.claim s.3);
     } };
 
-    ghost claim = { λ s. both_claim join4
-        (three_claim (λ o1 o2 o3. (o1, o2, o3)) (P1.claim s.0) (P2.claim s.1) (P3.claim s.2))
-        (P4.claim s.3) };
-
-    ghost lawful = { λ is. sequence4_law (P1.lawful is.0) (P2.lawful is.1) (P3.lawful is.2)
-        (P4.lawful is.3) };
-
-    ghost claimed = { λ s. joined_claimed join4 split4 join4 refl
-        (three_claimed (λ o1 o2 o3. (o1, o2, o3)) (P1.claimed s.0) (P2.claimed s.1)
-        (P3.claimed s.2)) (P4.claimed s.3) };
+    ghost lawful = { record {
+      law = λ is. sequence4_law (P1.lawful.law is.0) (P2.lawful.law is.1) (P3.lawful.law is.2)
+          (P4.lawful.law is.3);
+      claimed = λ s. joined_claimed join4 split4 join4 refl
+          (three_claimed (λ o1 o2 o3. (o1, o2, o3)) (P1.lawful.claimed s.0)
+          (P2.lawful.claimed s.1) (P3.lawful.claimed s.2)) (P4.lawful.claimed s.3);
+    } };
 
     #[inline(always)]
     fn parse_next(&mut self, input: &mut I) -> Result<(O1, O2, O3, O4), E> {

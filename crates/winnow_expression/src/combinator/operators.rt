@@ -5,7 +5,7 @@ ghost use Rattle.winnow_expression.specs.Calls.{asked};
 ghost use Rattle.winnow_expression.specs.Operators.{IsInfixClone, IsPostfixClone, IsPrefixClone};
 ghost use Rattle.winnow_expression.specs.Operators.{fold_of, left_power};
 ghost use Rattle.winnow_expression.specs.Operators.{neither_power, right_power};
-ghost use Rattle.parser_definitions.specs.Claim.{no_claim, nothing_claimed};
+ghost use Rattle.parser_definitions.specs.Terms.{no_claim, nothing_claimed};
 
 use stream_errors::parser_error::ParserError;
 use streams::stream::Stream;
@@ -124,13 +124,13 @@ impl<I: Stream, F: Clone, E: ParserError<I>> Parser<I, Prefix<F>, E> for Prefix<
       premise = ⊤;
       stable = ⊤;
       alike = ClonesOfOne (IsPrefixClone F.is_clone);
+      claim = λ _. no_claim;
     } };
 
-    ghost claim = { λ _. no_claim };
-
-    ghost lawful = { λ is. operator_law (IsPrefixClone F.is_clone) (λ s. F.is_infallible s.1) };
-
-    ghost claimed = { λ _. nothing_claimed };
+    ghost lawful = { record {
+      law = λ is. operator_law (IsPrefixClone F.is_clone) (λ s. F.is_infallible s.1);
+      claimed = λ _. nothing_claimed;
+    } };
 
     #[inline(always)]
     fn parse_next(&mut self, input: &mut I) -> Result<Prefix<F>, E> {
@@ -152,13 +152,13 @@ impl<I: Stream, F: Clone, E: ParserError<I>> Parser<I, Postfix<F>, E> for Postfi
       premise = ⊤;
       stable = ⊤;
       alike = ClonesOfOne (IsPostfixClone F.is_clone);
+      claim = λ _. no_claim;
     } };
 
-    ghost claim = { λ _. no_claim };
-
-    ghost lawful = { λ is. operator_law (IsPostfixClone F.is_clone) (λ s. F.is_infallible s.1) };
-
-    ghost claimed = { λ _. nothing_claimed };
+    ghost lawful = { record {
+      law = λ is. operator_law (IsPostfixClone F.is_clone) (λ s. F.is_infallible s.1);
+      claimed = λ _. nothing_claimed;
+    } };
 
     #[inline(always)]
     fn parse_next(&mut self, input: &mut I) -> Result<Postfix<F>, E> {
@@ -180,14 +180,14 @@ impl<I: Stream, F: Clone, E: ParserError<I>> Parser<I, Infix<F>, E> for Infix<F>
       premise = ⊤;
       stable = ⊤;
       alike = ClonesOfOne (IsInfixClone F.is_clone);
+      claim = λ _. no_claim;
     } };
 
-    ghost claim = { λ _. no_claim };
-
-    ghost lawful = { λ is. operator_law (IsInfixClone F.is_clone)
-        (λ s. F.is_infallible (fold_of s)) };
-
-    ghost claimed = { λ _. nothing_claimed };
+    ghost lawful = { record {
+      law = λ is. operator_law (IsInfixClone F.is_clone)
+          (λ s. F.is_infallible (fold_of s));
+      claimed = λ _. nothing_claimed;
+    } };
 
     #[inline(always)]
     fn parse_next(&mut self, input: &mut I) -> Result<Infix<F>, E> {

@@ -4,7 +4,7 @@ ghost use Rattle.parser_definitions.specs.Escaped.{AlikeSides};
 ghost use Rattle.parser_definitions.specs.Places.{FirstDoes, NextDoes, first_law, next_law};
 ghost use Rattle.winnow_expression.specs.Covers.Parts.{as_law};
 ghost use Rattle.winnow_expression.specs.Definition.{OutputAs, first_side, next_side};
-ghost use Rattle.parser_definitions.specs.Claim.{no_claim, nothing_claimed};
+ghost use Rattle.parser_definitions.specs.Terms.{no_claim, nothing_claimed};
 
 use crate::combinator::operators::{Infix, Postfix, Prefix};
 use stream_errors::parser_error::ParserError;
@@ -57,14 +57,14 @@ impl<I: Stream, O, E: ParserError<I>, F, P: Parser<I, O, E>, R: Parser<I, Prefix
       premise = P.terms.premise × R.terms.premise;
       stable = P.terms.stable × R.terms.stable;
       alike = λ x y. AlikeSides P.terms.alike R.terms.alike (first_side x) (first_side y);
+      claim = λ _. no_claim;
     } };
 
-    ghost claim = { λ _. no_claim };
-
-    ghost lawful = { λ is. as_law first_side (AlikeSides P.terms.alike R.terms.alike)
-        (first_law (P.lawful is.0) (R.lawful is.1)) };
-
-    ghost claimed = { λ _. nothing_claimed };
+    ghost lawful = { record {
+      law = λ is. as_law first_side (AlikeSides P.terms.alike R.terms.alike)
+          (first_law (P.lawful.law is.0) (R.lawful.law is.1));
+      claimed = λ _. nothing_claimed;
+    } };
 
     #[inline(always)]
     fn parse_next(&mut self, input: &mut I) -> Result<First<O, F>, E> {
@@ -104,15 +104,15 @@ impl<
       stable = ⊥;
       alike = λ x y. AlikeOptions (AlikeSides P.terms.alike R.terms.alike) (next_side x)
           (next_side y);
+      claim = λ _. no_claim;
     } };
 
-    ghost claim = { λ _. no_claim };
-
-    ghost lawful = { λ is. as_law next_side
-        (AlikeOptions (AlikeSides P.terms.alike R.terms.alike))
-        (next_law I.reading.units (P.lawful is.0) (R.lawful is.1)) };
-
-    ghost claimed = { λ _. nothing_claimed };
+    ghost lawful = { record {
+      law = λ is. as_law next_side
+          (AlikeOptions (AlikeSides P.terms.alike R.terms.alike))
+          (next_law I.reading.units (P.lawful.law is.0) (R.lawful.law is.1));
+      claimed = λ _. nothing_claimed;
+    } };
 
     #[inline(always)]
     fn parse_next(&mut self, input: &mut I) -> Result<Next<G, H>, E> {

@@ -47,10 +47,10 @@ returns-clause-spared g c item opening closing gap none =
     let (closes, closing_premise, closing_backs) = c.requires.closing in
     let (gaps, gap_premise, gap_backs) = c.requires.gap in
     let (items, item_premise, item_backs) = c.requires.item in
-    let claimed = g.met.B.Parser.claimed in
+    let claimed = g.met.B.Parser.lawful.claimed in
     let first = both_claimed pair (claimed (g.B.Parser.state c.args.marks.opening))
-    (g.met.G.Parser.claimed (g.G.Parser.state c.args.marks.gap)) in
-    let of_item = g.met.P.Parser.claimed (g.P.Parser.state c.args.item) in
+    (g.met.G.Parser.lawful.claimed (g.G.Parser.state c.args.marks.gap)) in
+    let of_item = g.met.P.Parser.lawful.claimed (g.P.Parser.state c.args.item) in
     let last = claimed (g.B.Parser.state c.args.marks.closing) in
     let range : Range = record { start_inclusive = 0; end_inclusive = None } in
     items_spared (BothDo pair g.B.Parser.does g.G.Parser.does) list_kept (λ n never. never) (

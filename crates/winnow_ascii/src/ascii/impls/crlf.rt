@@ -33,22 +33,22 @@ impl<I: StreamIsPartial + Compare<&'static str>, E: ParserError<I>> Parser<I, I:
       premise = SpellsByText I.spells;
       stable = ⊤;
       alike = ShowSame I.reading;
+      claim = λ s. record {
+        premise = SpellsByText I.spells;
+        backtracks = ⊤;
+        spares_memory = ⊤;
+        consumes = SpelledBy I.spells (13 ∷ 10 ∷ []) [] → ⊥;
+        grammar = LiterallyBytes I.reading I.spells (13 ∷ 10 ∷ []);
+      };
     } };
 
-    ghost claim = { λ s. record {
-      premise = SpellsByText I.spells;
-      backtracks = ⊤;
-      spares_memory = ⊤;
-      consumes = SpelledBy I.spells (13 ∷ 10 ∷ []) [] → ⊥;
-      grammar = LiterallyBytes I.reading I.spells (13 ∷ 10 ∷ []);
-    } };
-
-    ghost lawful = { λ is. crlf_law I.reading I.spells I.same_units is };
-
-    ghost claimed = { λ s. record {
-      projects = λ at is. text_projects I.reading I.spells I.same_units is (13 ∷ 10 ∷ []);
-      takes = λ is some. literally_takes I.reading (SpelledBy I.spells) (λ _ slice. slice)
-          (13 ∷ 10 ∷ []) some;
+    ghost lawful = { record {
+      law = λ is. crlf_law I.reading I.spells I.same_units is;
+      claimed = λ s. record {
+        projects = λ at is. text_projects I.reading I.spells I.same_units is (13 ∷ 10 ∷ []);
+        takes = λ is some. literally_takes I.reading (SpelledBy I.spells) (λ _ slice. slice)
+            (13 ∷ 10 ∷ []) some;
+      };
     } };
 
     #[inline(always)]

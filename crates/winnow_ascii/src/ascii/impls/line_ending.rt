@@ -34,25 +34,25 @@ impl<I: StreamIsPartial + Compare<&'static str>, E: ParserError<I>> Parser<I, I:
       premise = SpellsByText I.spells;
       stable = ⊤;
       alike = ShowSame I.reading;
+      claim = λ s. record {
+        premise = SpellsByText I.spells;
+        backtracks = ⊤;
+        spares_memory = ⊤;
+        consumes = (SpelledBy I.spells (10 ∷ []) [] → ⊥)
+            × (SpelledBy I.spells (13 ∷ 10 ∷ []) [] → ⊥);
+        grammar = LineEnd I.reading I.spells;
+      };
     } };
 
-    ghost claim = { λ s. record {
-      premise = SpellsByText I.spells;
-      backtracks = ⊤;
-      spares_memory = ⊤;
-      consumes = (SpelledBy I.spells (10 ∷ []) [] → ⊥)
-          × (SpelledBy I.spells (13 ∷ 10 ∷ []) [] → ⊥);
-      grammar = LineEnd I.reading I.spells;
-    } };
-
-    ghost lawful = { λ is. line_ending_law I.reading I.spells I.same_units is };
-
-    ghost claimed = { λ s. record {
-      projects = λ at is. line_ending_projects I.reading I.spells I.same_units is;
-      takes = λ is some. either_takes
-          (literally_takes I.reading (SpelledBy I.spells) (λ _ slice. slice) (10 ∷ [])
-          some.0) (literally_takes I.reading (SpelledBy I.spells) (λ _ slice. slice)
-          (13 ∷ 10 ∷ []) some.1);
+    ghost lawful = { record {
+      law = λ is. line_ending_law I.reading I.spells I.same_units is;
+      claimed = λ s. record {
+        projects = λ at is. line_ending_projects I.reading I.spells I.same_units is;
+        takes = λ is some. either_takes
+            (literally_takes I.reading (SpelledBy I.spells) (λ _ slice. slice) (10 ∷ [])
+            some.0) (literally_takes I.reading (SpelledBy I.spells) (λ _ slice. slice)
+            (13 ∷ 10 ∷ []) some.1);
+      };
     } };
 
     #[inline(always)]

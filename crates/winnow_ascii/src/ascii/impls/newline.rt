@@ -26,22 +26,26 @@ impl<I: StreamIsPartial + Compare<char>, E: ParserError<I>> Parser<I, char, E> f
 
     ghost does = { NewlineDoes I.reading I.spells };
 
-    ghost terms = { record { premise = ⊤; stable = ⊤; alike = λ m n. m ≡ n } };
-
-    ghost claim = { λ s. record {
+    ghost terms = { record {
       premise = ⊤;
-      backtracks = ⊤;
-      spares_memory = ⊤;
-      consumes = I.spells 10 [] → ⊥;
-      grammar = Literally I.reading I.spells (λ s _. s) 10;
+      stable = ⊤;
+      alike = λ m n. m ≡ n;
+      claim = λ s. record {
+        premise = ⊤;
+        backtracks = ⊤;
+        spares_memory = ⊤;
+        consumes = I.spells 10 [] → ⊥;
+        grammar = Literally I.reading I.spells (λ s _. s) 10;
+      };
     } };
 
-    ghost lawful = { λ _. character_law I.reading I.spells 10 (I.same_units 10) };
-
-    ghost claimed = { λ s. record {
-      projects = λ at is. literal_projects I.reading I.spells (λ s _. s) (λ _. 10) tt
-          (I.same_units 10);
-      takes = λ is some. literally_takes I.reading I.spells (λ s _. s) 10 some;
+    ghost lawful = { record {
+      law = λ _. character_law I.reading I.spells 10 (I.same_units 10);
+      claimed = λ s. record {
+        projects = λ at is. literal_projects I.reading I.spells (λ s _. s) (λ _. 10) tt
+            (I.same_units 10);
+        takes = λ is some. literally_takes I.reading I.spells (λ s _. s) 10 some;
+      };
     } };
 
     #[inline(always)]

@@ -26,22 +26,26 @@ impl<I: StreamIsPartial + Compare<char>, E: ParserError<I>> Parser<I, char, E> f
 
     ghost does = { TabDoes I.reading I.spells };
 
-    ghost terms = { record { premise = ⊤; stable = ⊤; alike = λ m n. m ≡ n } };
-
-    ghost claim = { λ s. record {
+    ghost terms = { record {
       premise = ⊤;
-      backtracks = ⊤;
-      spares_memory = ⊤;
-      consumes = I.spells 9 [] → ⊥;
-      grammar = Literally I.reading I.spells (λ s _. s) 9;
+      stable = ⊤;
+      alike = λ m n. m ≡ n;
+      claim = λ s. record {
+        premise = ⊤;
+        backtracks = ⊤;
+        spares_memory = ⊤;
+        consumes = I.spells 9 [] → ⊥;
+        grammar = Literally I.reading I.spells (λ s _. s) 9;
+      };
     } };
 
-    ghost lawful = { λ _. character_law I.reading I.spells 9 (I.same_units 9) };
-
-    ghost claimed = { λ s. record {
-      projects = λ at is. literal_projects I.reading I.spells (λ s _. s) (λ _. 9) tt
-          (I.same_units 9);
-      takes = λ is some. literally_takes I.reading I.spells (λ s _. s) 9 some;
+    ghost lawful = { record {
+      law = λ _. character_law I.reading I.spells 9 (I.same_units 9);
+      claimed = λ s. record {
+        projects = λ at is. literal_projects I.reading I.spells (λ s _. s) (λ _. 9) tt
+            (I.same_units 9);
+        takes = λ is some. literally_takes I.reading I.spells (λ s _. s) 9 some;
+      };
     } };
 
     #[inline(always)]

@@ -36,22 +36,22 @@ impl<
       premise = SpellsByText I.spells;
       stable = SeeksSome I.sought × SpellsOne I.spells;
       alike = ShowSame I.reading;
+      claim = λ s. record {
+        premise = SpellsByText I.spells;
+        backtracks = ⊤;
+        spares_memory = ⊤;
+        consumes = ⊥;
+        grammar = Line I.reading I.spells I.sought;
+      };
     } };
 
-    ghost claim = { λ s. record {
-      premise = SpellsByText I.spells;
-      backtracks = ⊤;
-      spares_memory = ⊤;
-      consumes = ⊥;
-      grammar = Line I.reading I.spells I.sought;
-    } };
-
-    ghost lawful = { λ is. till_line_ending_law I.reading I.spells I.sought
-        (I.stays_first (13, 10)) is };
-
-    ghost claimed = { λ s. record {
-      projects = λ at is. till_line_ending_projects I.reading I.spells I.sought is;
-      takes = λ is never. absurd never;
+    ghost lawful = { record {
+      law = λ is. till_line_ending_law I.reading I.spells I.sought
+          (I.stays_first (13, 10)) is;
+      claimed = λ s. record {
+        projects = λ at is. till_line_ending_projects I.reading I.spells I.sought is;
+        takes = λ is never. absurd never;
+      };
     } };
 
     #[inline(always)]

@@ -50,27 +50,27 @@ impl<
       premise = P.terms.premise × OneLength N.number P.terms.alike × G.terms.premise;
       stable = P.terms.stable × ⊤;
       alike = G.terms.alike;
+      claim = λ s. record {
+        premise = (P.terms.claim s.0).premise × SaysOne N.number (P.terms.claim s.0).grammar
+            × (G.terms.claim s.1).premise;
+        backtracks = (P.terms.claim s.0).backtracks × (G.terms.claim s.1).backtracks;
+        spares_memory = (P.terms.claim s.0).spares_memory × (G.terms.claim s.1).spares_memory;
+        consumes = (P.terms.claim s.0).consumes;
+        grammar = Sized N.number (Inside (G.terms.claim s.1).grammar) (P.terms.claim s.0).grammar;
+      };
     } };
 
-    ghost claim = { λ s. record {
-      premise = (P.claim s.0).premise × SaysOne N.number (P.claim s.0).grammar
-          × (G.claim s.1).premise;
-      backtracks = (P.claim s.0).backtracks × (G.claim s.1).backtracks;
-      spares_memory = (P.claim s.0).spares_memory × (G.claim s.1).spares_memory;
-      consumes = (P.claim s.0).consumes;
-      grammar = Sized N.number (Inside (G.claim s.1).grammar) (P.claim s.0).grammar;
-    } };
-
-    ghost lawful = { λ is. length_and_then_law I.reading N.number I.counts_missing is.1
-        (P.lawful is.0) (G.lawful is.2) };
-
-    ghost claimed = { λ s. record {
-      projects = λ at is. length_and_then_projects N.number I.reading I.counts_missing
-          (projects_as (λ b. b.0) (λ m. m.0) ((P.claimed s.0).projects at is.0)) is.1
-          (projects_as (λ b. b.1) (λ m. m.1) ((G.claimed s.1).projects at is.2));
-      takes = λ is some. sized_inside_takes N.number (G.claim s.1).grammar
-          ((P.claimed s.0).projects (record { form = modal; possible = true }) is.0).unique
-          ((P.claimed s.0).takes is.0 some);
+    ghost lawful = { record {
+      law = λ is. length_and_then_law I.reading N.number I.counts_missing is.1
+          (P.lawful.law is.0) (G.lawful.law is.2);
+      claimed = λ s. record {
+        projects = λ at is. length_and_then_projects N.number I.reading I.counts_missing
+            (projects_as (λ b. b.0) (λ m. m.0) ((P.lawful.claimed s.0).projects at is.0)) is.1
+            (projects_as (λ b. b.1) (λ m. m.1) ((G.lawful.claimed s.1).projects at is.2));
+        takes = λ is some. sized_inside_takes N.number (G.terms.claim s.1).grammar
+            ((P.lawful.claimed s.0).projects (record { form = modal; possible = true }) is.0).unique
+            ((P.lawful.claimed s.0).takes is.0 some);
+      };
     } };
 
     #[inline]

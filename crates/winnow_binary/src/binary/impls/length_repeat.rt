@@ -54,31 +54,33 @@ impl<
       premise = P.terms.premise × OneLength N.number P.terms.alike × G.terms.premise;
       stable = P.terms.stable × G.terms.stable;
       alike = Built (gathering {Q = P.State × G.State} C.accumulator) G.terms.alike;
+      claim = λ s. record {
+        premise = (P.terms.claim s.0).premise × SaysOne N.number (P.terms.claim s.0).grammar
+            × (G.terms.claim s.1).premise × (G.terms.claim s.1).backtracks
+            × (G.terms.claim s.1).consumes;
+        backtracks = (P.terms.claim s.0).backtracks;
+        spares_memory =
+            (P.terms.claim s.0).spares_memory × (G.terms.claim s.1).spares_memory × C.spares_memory;
+        consumes = (P.terms.claim s.0).consumes;
+        grammar = Sized N.number (Times C.holds (G.terms.claim s.1).grammar)
+            (P.terms.claim s.0).grammar;
+      };
     } };
 
-    ghost claim = { λ s. record {
-      premise = (P.claim s.0).premise × SaysOne N.number (P.claim s.0).grammar
-          × (G.claim s.1).premise × (G.claim s.1).backtracks × (G.claim s.1).consumes;
-      backtracks = (P.claim s.0).backtracks;
-      spares_memory =
-          (P.claim s.0).spares_memory × (G.claim s.1).spares_memory × C.spares_memory;
-      consumes = (P.claim s.0).consumes;
-      grammar = Sized N.number (Times C.holds (G.claim s.1).grammar) (P.claim s.0).grammar;
-    } };
-
-    ghost lawful = { λ is. length_repeat_law N.number C.accumulator is.1 (P.lawful is.0)
-        (G.lawful is.2) };
-
-    ghost claimed = { λ s. record {
-      projects = λ at is. length_repeat_projects N.number C.accumulator C.gathers
-          (λ m. C.never_wants m.2)
-          (projects_as (λ b. b) (λ m. m.0) ((P.claimed s.0).projects at is.0)) is.1
-          (projects_as (λ b. b) (λ m. m.1) ((G.claimed s.1).projects at is.2)) is.3
-          ((G.claimed s.1).takes is.2 is.4);
-      takes = λ is some. sized_times_takes N.number C.holds
-          ((G.claimed s.1).projects (record { form = modal; possible = true }) is.2).unique
-          ((P.claimed s.0).projects (record { form = modal; possible = true }) is.0).unique
-          ((P.claimed s.0).takes is.0 some);
+    ghost lawful = { record {
+      law = λ is. length_repeat_law N.number C.accumulator is.1 (P.lawful.law is.0)
+          (G.lawful.law is.2);
+      claimed = λ s. record {
+        projects = λ at is. length_repeat_projects N.number C.accumulator C.gathers
+            (λ m. C.never_wants m.2)
+            (projects_as (λ b. b) (λ m. m.0) ((P.lawful.claimed s.0).projects at is.0)) is.1
+            (projects_as (λ b. b) (λ m. m.1) ((G.lawful.claimed s.1).projects at is.2)) is.3
+            ((G.lawful.claimed s.1).takes is.2 is.4);
+        takes = λ is some. sized_times_takes N.number C.holds
+            ((G.lawful.claimed s.1).projects (record { form = modal; possible = true }) is.2).unique
+            ((P.lawful.claimed s.0).projects (record { form = modal; possible = true }) is.0).unique
+            ((P.lawful.claimed s.0).takes is.0 some);
+      };
     } };
 
     fn parse_next(&mut self, input: &mut I) -> Result<C, E> {

@@ -45,25 +45,25 @@ impl<P: Parser<I, N, E>, I: StreamIsPartial, N: ToUsize + Drop, E: ParserError<I
       premise = P.terms.premise × OneLength N.number P.terms.alike;
       stable = P.terms.stable × ⊤;
       alike = ShowSame I.reading;
+      claim = λ s. record {
+        premise = (P.terms.claim s).premise × SaysOne N.number (P.terms.claim s).grammar;
+        backtracks = (P.terms.claim s).backtracks;
+        spares_memory = (P.terms.claim s).spares_memory;
+        consumes = (P.terms.claim s).consumes;
+        grammar = Sized N.number (Counted I.reading) (P.terms.claim s).grammar;
+      };
     } };
 
-    ghost claim = { λ s. record {
-      premise = (P.claim s).premise × SaysOne N.number (P.claim s).grammar;
-      backtracks = (P.claim s).backtracks;
-      spares_memory = (P.claim s).spares_memory;
-      consumes = (P.claim s).consumes;
-      grammar = Sized N.number (Counted I.reading) (P.claim s).grammar;
-    } };
-
-    ghost lawful = { λ is. length_take_law N.number I.reading I.counts_missing is.1
-        (P.lawful is.0) };
-
-    ghost claimed = { λ s. record {
-      projects = λ at is. length_take_projects N.number I.reading I.counts_missing
-          ((P.claimed s).projects at is.0) is.1;
-      takes = λ is some. length_take_takes N.number I.reading
-          ((P.claimed s).projects (record { form = modal; possible = true }) is.0).unique
-          ((P.claimed s).takes is.0 some);
+    ghost lawful = { record {
+      law = λ is. length_take_law N.number I.reading I.counts_missing is.1
+          (P.lawful.law is.0);
+      claimed = λ s. record {
+        projects = λ at is. length_take_projects N.number I.reading I.counts_missing
+            ((P.lawful.claimed s).projects at is.0) is.1;
+        takes = λ is some. length_take_takes N.number I.reading
+            ((P.lawful.claimed s).projects (record { form = modal; possible = true }) is.0).unique
+            ((P.lawful.claimed s).takes is.0 some);
+      };
     } };
 
     #[inline]

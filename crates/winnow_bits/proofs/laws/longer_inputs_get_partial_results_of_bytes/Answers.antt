@@ -6,6 +6,6 @@ use Rattle.winnow_bits.proofs.laws.longer_inputs_get_partial_results_of_bytes.Go
 pub returns : goal.returns
 returns g c = λ has premise stable.
     let reading = bits_reading g.I.Stream.reading in
-    let law = g.met.P.Parser.lawful premise in
+    let law = g.met.P.Parser.lawful.law premise in
     same_on_longer_by reading WholeBytesCounted (bytes_of_bits_law reading law)
     (whole_bytes_stay reading law stable) has

@@ -1,6 +1,6 @@
 //! A parser of bits, run on bytes.
 ghost use Rattle.parser_definitions.specs.BitsOfBytes.{BitsOfBytesDoes, bits_of_bytes_law};
-ghost use Rattle.parser_definitions.specs.Claim.{no_claim, nothing_claimed};
+ghost use Rattle.parser_definitions.specs.Terms.{no_claim, nothing_claimed};
 
 use crate::bits::whole::{in_bytes, whole_bytes};
 use std::marker::PhantomData;
@@ -42,13 +42,17 @@ impl<
 
     ghost does = { BitsOfBytesDoes I.reading P.does };
 
-    ghost terms = { record { premise = P.terms.premise; stable = ⊥; alike = P.terms.alike } };
+    ghost terms = { record {
+      premise = P.terms.premise;
+      stable = ⊥;
+      alike = P.terms.alike;
+      claim = λ _. no_claim;
+    } };
 
-    ghost claim = { λ _. no_claim };
-
-    ghost lawful = { λ is. bits_of_bytes_law I.reading (P.lawful is) };
-
-    ghost claimed = { λ _. nothing_claimed };
+    ghost lawful = { record {
+      law = λ is. bits_of_bytes_law I.reading (P.lawful.law is);
+      claimed = λ _. nothing_claimed;
+    } };
 
     #[inline]
     fn parse_next(&mut self, input: &mut I) -> Result<O, F> {

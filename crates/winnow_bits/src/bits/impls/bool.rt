@@ -2,7 +2,7 @@
 ghost use Rattle.std.specs.Prelude.{◌≡◌, ⊤};
 ghost use Rattle.parser_definitions.specs.BitBool.{BitBoolDoes, bit_bool_law};
 ghost use Rattle.stream_bits.specs.BitReading.{bits_reading};
-ghost use Rattle.parser_definitions.specs.Claim.{no_claim, nothing_claimed};
+ghost use Rattle.parser_definitions.specs.Terms.{no_claim, nothing_claimed};
 
 use crate::bits;
 use stream_bits::bits::Bits;
@@ -29,13 +29,17 @@ impl<I: ByteStream + StreamIsPartial, E: ParserError<Bits<I>>> Parser<Bits<I>, b
 
     ghost does = { BitBoolDoes (bits_reading I.reading) };
 
-    ghost terms = { record { premise = ⊤; stable = ⊤; alike = λ o p. o ≡ p } };
+    ghost terms = { record {
+      premise = ⊤;
+      stable = ⊤;
+      alike = λ o p. o ≡ p;
+      claim = λ _. no_claim;
+    } };
 
-    ghost claim = { λ _. no_claim };
-
-    ghost lawful = { λ is. bit_bool_law (bits_reading I.reading) };
-
-    ghost claimed = { λ _. nothing_claimed };
+    ghost lawful = { record {
+      law = λ is. bit_bool_law (bits_reading I.reading);
+      claimed = λ _. nothing_claimed;
+    } };
 
     #[inline(always)]
     fn parse_next(&mut self, input: &mut Bits<I>) -> Result<bool, E> {

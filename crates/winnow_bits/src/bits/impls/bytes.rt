@@ -1,7 +1,7 @@
 //! A parser of bytes, run on bits.
 ghost use Rattle.parser_definitions.specs.BytesOfBits.{BytesOfBitsDoes, bytes_of_bits_law};
 ghost use Rattle.stream_bits.specs.BitReading.{bits_reading};
-ghost use Rattle.parser_definitions.specs.Claim.{no_claim, nothing_claimed};
+ghost use Rattle.parser_definitions.specs.Terms.{no_claim, nothing_claimed};
 
 use crate::bits::whole::{in_bits, whole_bytes};
 use std::marker::PhantomData;
@@ -42,13 +42,17 @@ impl<
 
     ghost does = { BytesOfBitsDoes (bits_reading I.reading) P.does };
 
-    ghost terms = { record { premise = P.terms.premise; stable = ⊥; alike = P.terms.alike } };
+    ghost terms = { record {
+      premise = P.terms.premise;
+      stable = ⊥;
+      alike = P.terms.alike;
+      claim = λ _. no_claim;
+    } };
 
-    ghost claim = { λ _. no_claim };
-
-    ghost lawful = { λ is. bytes_of_bits_law (bits_reading I.reading) (P.lawful is) };
-
-    ghost claimed = { λ _. nothing_claimed };
+    ghost lawful = { record {
+      law = λ is. bytes_of_bits_law (bits_reading I.reading) (P.lawful.law is);
+      claimed = λ _. nothing_claimed;
+    } };
 
     #[inline]
     fn parse_next(&mut self, input: &mut Bits<I>) -> Result<O, F> {

@@ -2,7 +2,7 @@
 ghost use Rattle.std.specs.Prelude.{◌≡◌, ⊤, ℕ};
 ghost use Rattle.parser_definitions.specs.BitTake.{BitPatternDoes, bit_pattern_law};
 ghost use Rattle.stream_bits.specs.BitReading.{bits_reading};
-ghost use Rattle.parser_definitions.specs.Claim.{no_claim, nothing_claimed};
+ghost use Rattle.parser_definitions.specs.Terms.{no_claim, nothing_claimed};
 
 use crate::bits::fields::take_counted;
 use crate::bits::output::BitOutput;
@@ -38,13 +38,17 @@ impl<I: ByteStream + StreamIsPartial, O: BitOutput, E: ParserError<Bits<I>>> Par
 
     ghost does = { BitPatternDoes O.number O.WIDTH (bits_reading I.reading) };
 
-    ghost terms = { record { premise = ⊤; stable = ⊤; alike = λ o p. O.number o ≡ O.number p } };
+    ghost terms = { record {
+      premise = ⊤;
+      stable = ⊤;
+      alike = λ o p. O.number o ≡ O.number p;
+      claim = λ _. no_claim;
+    } };
 
-    ghost claim = { λ _. no_claim };
-
-    ghost lawful = { λ is. bit_pattern_law O.number O.WIDTH (bits_reading I.reading) };
-
-    ghost claimed = { λ _. nothing_claimed };
+    ghost lawful = { record {
+      law = λ is. bit_pattern_law O.number O.WIDTH (bits_reading I.reading);
+      claimed = λ _. nothing_claimed;
+    } };
 
     #[inline(always)]
     fn parse_next(&mut self, input: &mut Bits<I>) -> Result<O, E> {

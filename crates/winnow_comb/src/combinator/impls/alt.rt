@@ -2,10 +2,10 @@
 ghost use Rattle.std.specs.Prelude.{⊤, ◌≡◌};
 ghost use Rattle.stream_errors.specs.Form.{answer_by};
 ghost use Rattle.streams.specs.Input.{IsEndOf};
-ghost use Rattle.parser_definitions.specs.Does.{Ran, Lawful, Terms};
+ghost use Rattle.parser_definitions.specs.Does.{Ran};
 ghost use Rattle.parser_definitions.specs.Outcome.{Does};
 ghost use Rattle.winnow_comb.specs.Attempt.{AttemptRuns};
-ghost use Rattle.parser_definitions.specs.Claim.{Claim, Claimed};
+ghost use Rattle.parser_definitions.specs.Terms.{Meets, Terms};
 
 mod slices;
 mod tuples;
@@ -36,11 +36,9 @@ pub trait Alt<I: Stream, O, E: ParserError<I>> {
     // The definition of the choice.
     ghost does: { Does State I.Seen O };
 
-    // When the definition is lawful, when it is stable, and which outputs are equal.
-    ghost terms: { Terms O };
-
-    // The specification of the choice by grammars, from a state.
-    ghost claim: { State → Claim I.Seen O };
+    // When the definition is lawful, when it is stable, which outputs are equal, and its
+    // specification by a grammar.
+    ghost terms: { Terms State I.Seen O };
 
     /// Runs the branches in order, each from the start, and returns the first result that is not a
     /// backtrack.
@@ -51,10 +49,7 @@ pub trait Alt<I: Stream, O, E: ParserError<I>> {
             (answer_by E.kind result) (state self.new) (I.view input.new) };
 
     // The laws of the definition.
-    ghost lawful: { terms.premise → Lawful terms.stable terms.alike does };
-
-    // The definition satisfies `claim`.
-    ghost claimed: { (s : State) → Claimed (claim s) s does };
+    ghost lawful: { Meets terms does };
 }
 
 /// The parser that [`alt`](crate::combinator::alt) makes.
@@ -80,11 +75,7 @@ impl<A: Alt<I, O, E>, I: Stream, O, E: ParserError<I>> Parser<I, O, E> for AltPa
 
     ghost terms = { A.terms };
 
-    ghost claim = { A.claim };
-
     ghost lawful = { A.lawful };
-
-    ghost claimed = { A.claimed };
 
     #[inline(always)]
     fn parse_next(&mut self, input: &mut I) -> Result<O, E> {

@@ -1,5 +1,5 @@
 //! A child whose errors backtrack.
-ghost use Rattle.parser_definitions.specs.Claim.{no_claim, nothing_claimed};
+ghost use Rattle.parser_definitions.specs.Terms.{no_claim, nothing_claimed};
 ghost use Rattle.parser_definitions.specs.Peek.{BacktrackErrDoes, backtrack_err_law};
 
 use std::marker::PhantomData;
@@ -34,13 +34,13 @@ impl<P: Parser<I, O, E>, I: Stream, O, E: ParserError<I> + ModalError> Parser<I,
       premise = P.terms.premise;
       stable = P.terms.stable;
       alike = P.terms.alike;
+      claim = λ _. no_claim;
     } };
 
-    ghost claim = { λ _. no_claim };
-
-    ghost lawful = { λ is. backtrack_err_law (P.lawful is) };
-
-    ghost claimed = { λ _. nothing_claimed };
+    ghost lawful = { record {
+      law = λ is. backtrack_err_law (P.lawful.law is);
+      claimed = λ _. nothing_claimed;
+    } };
 
     #[inline(always)]
     fn parse_next(&mut self, input: &mut I) -> Result<O, E> {

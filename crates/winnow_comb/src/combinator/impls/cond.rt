@@ -37,21 +37,21 @@ impl<P: Parser<I, O, E>, I: Stream, O, E: ParserError<I>> Parser<I, Option<O>, E
       premise = P.terms.premise;
       stable = P.terms.stable;
       alike = AlikeOptions P.terms.alike;
+      claim = λ s. record {
+        premise = (P.terms.claim s.0).premise;
+        backtracks = (P.terms.claim s.0).backtracks;
+        spares_memory = (P.terms.claim s.0).spares_memory;
+        consumes = ⊥;
+        grammar = When s.1 (P.terms.claim s.0).grammar;
+      };
     } };
 
-    ghost claim = { λ s. record {
-      premise = (P.claim s.0).premise;
-      backtracks = (P.claim s.0).backtracks;
-      spares_memory = (P.claim s.0).spares_memory;
-      consumes = ⊥;
-      grammar = When s.1 (P.claim s.0).grammar;
-    } };
-
-    ghost lawful = { λ is. cond_law (P.lawful is) };
-
-    ghost claimed = { λ s. record {
-      projects = λ at is. cond_projects ((P.claimed s.0).projects at is);
-      takes = λ is never. absurd never;
+    ghost lawful = { record {
+      law = λ is. cond_law (P.lawful.law is);
+      claimed = λ s. record {
+        projects = λ at is. cond_projects ((P.lawful.claimed s.0).projects at is);
+        takes = λ is never. absurd never;
+      };
     } };
 
     #[inline(always)]

@@ -34,21 +34,21 @@ impl<P: Parser<I, O, E>, I: Stream, O, E: ParserError<I> + ModalError> Parser<I,
       premise = P.terms.premise;
       stable = P.terms.stable;
       alike = P.terms.alike;
+      claim = λ s. record {
+        premise = (P.terms.claim s).premise;
+        backtracks = ⊥;
+        spares_memory = (P.terms.claim s).spares_memory;
+        consumes = (P.terms.claim s).consumes;
+        grammar = (P.terms.claim s).grammar;
+      };
     } };
 
-    ghost claim = { λ s. record {
-      premise = (P.claim s).premise;
-      backtracks = ⊥;
-      spares_memory = (P.claim s).spares_memory;
-      consumes = (P.claim s).consumes;
-      grammar = (P.claim s).grammar;
-    } };
-
-    ghost lawful = { λ is. cut_err_law (P.lawful is) };
-
-    ghost claimed = { λ s. record {
-      projects = λ at is. cut_err_projects ((P.claimed s).projects at is);
-      takes = λ is some. (P.claimed s).takes is some;
+    ghost lawful = { record {
+      law = λ is. cut_err_law (P.lawful.law is);
+      claimed = λ s. record {
+        projects = λ at is. cut_err_projects ((P.lawful.claimed s).projects at is);
+        takes = λ is some. (P.lawful.claimed s).takes is some;
+      };
     } };
 
     #[inline(always)]

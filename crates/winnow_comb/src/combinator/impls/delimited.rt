@@ -44,15 +44,15 @@ impl<
       premise = P1.terms.premise × P2.terms.premise × P3.terms.premise;
       stable = P1.terms.stable × P2.terms.stable × P3.terms.stable;
       alike = P2.terms.alike;
+      claim = λ s. three_claim (λ o1 o2 o3. o2) (P1.terms.claim s.0) (P2.terms.claim s.1)
+          (P3.terms.claim s.2);
     } };
 
-    ghost claim = { λ s. three_claim (λ o1 o2 o3. o2) (P1.claim s.0) (P2.claim s.1)
-        (P3.claim s.2) };
-
-    ghost lawful = { λ is. delimited_law (P1.lawful is.0) (P2.lawful is.1) (P3.lawful is.2) };
-
-    ghost claimed = { λ s. three_claimed (λ o1 o2 o3. o2) (P1.claimed s.0) (P2.claimed s.1)
-        (P3.claimed s.2) };
+    ghost lawful = { record {
+      law = λ is. delimited_law (P1.lawful.law is.0) (P2.lawful.law is.1) (P3.lawful.law is.2);
+      claimed = λ s. three_claimed (λ o1 o2 o3. o2) (P1.lawful.claimed s.0) (P2.lawful.claimed s.1)
+          (P3.lawful.claimed s.2);
+    } };
 
     #[inline(always)]
     fn parse_next(&mut self, input: &mut I) -> Result<O2, E> {

@@ -29,21 +29,21 @@ impl<I: Stream, E: ParserError<I>> Parser<I, (), E> for Empty {
       premise = ⊤;
       stable = ⊤;
       alike = λ o p. ⊤;
+      claim = λ s. record {
+        premise = ⊤;
+        backtracks = ⊤;
+        spares_memory = ⊤;
+        consumes = ⊥;
+        grammar = Nothing tt;
+      };
     } };
 
-    ghost claim = { λ s. record {
-      premise = ⊤;
-      backtracks = ⊤;
-      spares_memory = ⊤;
-      consumes = ⊥;
-      grammar = Nothing tt;
-    } };
-
-    ghost lawful = { λ is. empty_law };
-
-    ghost claimed = { λ s. record {
-      projects = λ at is. empty_projects;
-      takes = λ is never. absurd never;
+    ghost lawful = { record {
+      law = λ is. empty_law;
+      claimed = λ s. record {
+        projects = λ at is. empty_projects;
+        takes = λ is never. absurd never;
+      };
     } };
 
     #[inline(always)]

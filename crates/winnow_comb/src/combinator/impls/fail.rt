@@ -29,21 +29,21 @@ impl<I: Stream, O, E: ParserError<I>> Parser<I, O, E> for Fail {
       premise = ⊤;
       stable = ⊤;
       alike = λ o p. o ≡ p;
+      claim = λ s. record {
+        premise = ⊤;
+        backtracks = ⊤;
+        spares_memory = ⊤;
+        consumes = ⊤;
+        grammar = Never;
+      };
     } };
 
-    ghost claim = { λ s. record {
-      premise = ⊤;
-      backtracks = ⊤;
-      spares_memory = ⊤;
-      consumes = ⊤;
-      grammar = Never;
-    } };
-
-    ghost lawful = { λ is. fail_law };
-
-    ghost claimed = { λ s. record {
-      projects = λ at is. fail_projects;
-      takes = λ is some. never_takes;
+    ghost lawful = { record {
+      law = λ is. fail_law;
+      claimed = λ s. record {
+        projects = λ at is. fail_projects;
+        takes = λ is some. never_takes;
+      };
     } };
 
     #[inline(always)]

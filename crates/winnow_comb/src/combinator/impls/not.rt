@@ -35,21 +35,21 @@ impl<P: Parser<I, O, E>, I: Stream, O: Drop, E: ParserError<I>> Parser<I, (), E>
       premise = P.terms.premise;
       stable = P.terms.stable;
       alike = λ o p. ⊤;
+      claim = λ s. record {
+        premise = (P.terms.claim s).premise × (P.terms.claim s).backtracks;
+        backtracks = ⊤;
+        spares_memory = (P.terms.claim s).spares_memory;
+        consumes = ⊥;
+        grammar = NotAhead (P.terms.claim s).grammar;
+      };
     } };
 
-    ghost claim = { λ s. record {
-      premise = (P.claim s).premise × (P.claim s).backtracks;
-      backtracks = ⊤;
-      spares_memory = (P.claim s).spares_memory;
-      consumes = ⊥;
-      grammar = NotAhead (P.claim s).grammar;
-    } };
-
-    ghost lawful = { λ is. not_law (P.lawful is) };
-
-    ghost claimed = { λ s. record {
-      projects = λ at is. not_projects ((P.claimed s).projects at is.0) is.1;
-      takes = λ is never. absurd never;
+    ghost lawful = { record {
+      law = λ is. not_law (P.lawful.law is);
+      claimed = λ s. record {
+        projects = λ at is. not_projects ((P.lawful.claimed s).projects at is.0) is.1;
+        takes = λ is never. absurd never;
+      };
     } };
 
     #[inline(always)]

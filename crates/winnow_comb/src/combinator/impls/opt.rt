@@ -36,21 +36,21 @@ impl<P: Parser<I, O, E>, I: Stream, O, E: ParserError<I>> Parser<I, Option<O>, E
       premise = P.terms.premise;
       stable = P.terms.stable;
       alike = AlikeOptions P.terms.alike;
+      claim = λ s. record {
+        premise = (P.terms.claim s).premise × (P.terms.claim s).backtracks;
+        backtracks = ⊤;
+        spares_memory = (P.terms.claim s).spares_memory;
+        consumes = ⊥;
+        grammar = Optional (P.terms.claim s).grammar;
+      };
     } };
 
-    ghost claim = { λ s. record {
-      premise = (P.claim s).premise × (P.claim s).backtracks;
-      backtracks = ⊤;
-      spares_memory = (P.claim s).spares_memory;
-      consumes = ⊥;
-      grammar = Optional (P.claim s).grammar;
-    } };
-
-    ghost lawful = { λ is. opt_law (P.lawful is) };
-
-    ghost claimed = { λ s. record {
-      projects = λ at is. opt_projects ((P.claimed s).projects at is.0) is.1;
-      takes = λ is never. absurd never;
+    ghost lawful = { record {
+      law = λ is. opt_law (P.lawful.law is);
+      claimed = λ s. record {
+        projects = λ at is. opt_projects ((P.lawful.claimed s).projects at is.0) is.1;
+        takes = λ is never. absurd never;
+      };
     } };
 
     #[inline(always)]

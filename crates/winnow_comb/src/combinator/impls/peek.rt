@@ -33,21 +33,21 @@ impl<P: Parser<I, O, E>, I: Stream, O, E: ParserError<I>> Parser<I, O, E> for Pe
       premise = P.terms.premise;
       stable = P.terms.stable;
       alike = P.terms.alike;
+      claim = λ s. record {
+        premise = (P.terms.claim s).premise;
+        backtracks = (P.terms.claim s).backtracks;
+        spares_memory = (P.terms.claim s).spares_memory;
+        consumes = ⊥;
+        grammar = Ahead (P.terms.claim s).grammar;
+      };
     } };
 
-    ghost claim = { λ s. record {
-      premise = (P.claim s).premise;
-      backtracks = (P.claim s).backtracks;
-      spares_memory = (P.claim s).spares_memory;
-      consumes = ⊥;
-      grammar = Ahead (P.claim s).grammar;
-    } };
-
-    ghost lawful = { λ is. peek_law (P.lawful is) };
-
-    ghost claimed = { λ s. record {
-      projects = λ at is. peek_projects ((P.claimed s).projects at is);
-      takes = λ is never. absurd never;
+    ghost lawful = { record {
+      law = λ is. peek_law (P.lawful.law is);
+      claimed = λ s. record {
+        projects = λ at is. peek_projects ((P.lawful.claimed s).projects at is);
+        takes = λ is never. absurd never;
+      };
     } };
 
     #[inline(always)]

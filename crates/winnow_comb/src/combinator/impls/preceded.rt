@@ -37,13 +37,13 @@ impl<P1: Parser<I, O1, E>, P2: Parser<I, O2, E>, I: Stream, O1: Drop, O2, E: Par
       premise = P1.terms.premise × P2.terms.premise;
       stable = P1.terms.stable × P2.terms.stable;
       alike = P2.terms.alike;
+      claim = λ s. both_claim (λ o1 o2. o2) (P1.terms.claim s.0) (P2.terms.claim s.1);
     } };
 
-    ghost claim = { λ s. both_claim (λ o1 o2. o2) (P1.claim s.0) (P2.claim s.1) };
-
-    ghost lawful = { λ is. preceded_law (P1.lawful is.0) (P2.lawful is.1) };
-
-    ghost claimed = { λ s. both_claimed (λ o1 o2. o2) (P1.claimed s.0) (P2.claimed s.1) };
+    ghost lawful = { record {
+      law = λ is. preceded_law (P1.lawful.law is.0) (P2.lawful.law is.1);
+      claimed = λ s. both_claimed (λ o1 o2. o2) (P1.lawful.claimed s.0) (P2.lawful.claimed s.1);
+    } };
 
     #[inline(always)]
     fn parse_next(&mut self, input: &mut I) -> Result<O2, E> {

@@ -45,16 +45,17 @@ impl<
       premise = P1.terms.premise × P2.terms.premise × P3.terms.premise;
       stable = P1.terms.stable × P2.terms.stable × P3.terms.stable;
       alike = AlikePairs P1.terms.alike P3.terms.alike;
+      claim = λ s. three_claim (λ o1 o2 o3. (o1, o3)) (P1.terms.claim s.0) (P2.terms.claim s.1)
+          (P3.terms.claim s.2);
     } };
 
-    ghost claim = { λ s. three_claim (λ o1 o2 o3. (o1, o3)) (P1.claim s.0) (P2.claim s.1)
-        (P3.claim s.2) };
-
-    ghost lawful = { λ is. separated_pair_law (P1.lawful is.0) (P2.lawful is.1)
-        (P3.lawful is.2) };
-
-    ghost claimed = { λ s. three_claimed (λ o1 o2 o3. (o1, o3)) (P1.claimed s.0) (P2.claimed s.1)
-        (P3.claimed s.2) };
+    ghost lawful = { record {
+      law = λ is. separated_pair_law (P1.lawful.law is.0) (P2.lawful.law is.1)
+          (P3.lawful.law is.2);
+      claimed = λ s. three_claimed (λ o1 o2 o3. (o1, o3)) (P1.lawful.claimed s.0)
+          (P2.lawful.claimed s.1)
+          (P3.lawful.claimed s.2);
+    } };
 
     #[inline(always)]
     fn parse_next(&mut self, input: &mut I) -> Result<(O1, O3), E> {

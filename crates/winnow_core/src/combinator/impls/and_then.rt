@@ -61,26 +61,29 @@ impl<
       premise = F.terms.premise × G.terms.premise × OneInput O.view F.terms.alike;
       stable = F.terms.stable;
       alike = G.terms.alike;
+      claim = λ s. record {
+        premise = (F.terms.claim s.0).premise × (G.terms.claim s.1).premise
+            × (G.terms.claim s.1).backtracks
+            × RejectsAll (ReadsWithin O.view (G.terms.claim s.1).grammar)
+            (NoneWithin O.view (G.terms.claim s.1).grammar) tt (F.terms.claim s.0).grammar;
+        backtracks = (F.terms.claim s.0).backtracks;
+        spares_memory = (F.terms.claim s.0).spares_memory × (G.terms.claim s.1).spares_memory;
+        consumes = (F.terms.claim s.0).consumes;
+        grammar = Made (ReadsWithin O.view (G.terms.claim s.1).grammar) tt
+            (F.terms.claim s.0).grammar;
+      };
     } };
 
-    ghost claim = { λ s. record {
-      premise = (F.claim s.0).premise × (G.claim s.1).premise × (G.claim s.1).backtracks
-          × RejectsAll (ReadsWithin O.view (G.claim s.1).grammar)
-          (NoneWithin O.view (G.claim s.1).grammar) tt (F.claim s.0).grammar;
-      backtracks = (F.claim s.0).backtracks;
-      spares_memory = (F.claim s.0).spares_memory × (G.claim s.1).spares_memory;
-      consumes = (F.claim s.0).consumes;
-      grammar = Made (ReadsWithin O.view (G.claim s.1).grammar) tt (F.claim s.0).grammar;
-    } };
-
-    ghost lawful = { λ is. and_then_law O.view is.2 (F.lawful is.0) (G.lawful is.1) };
-
-    ghost claimed = { λ s. record {
-      projects = λ at is. and_then_projects O.view is.2 is.3
-          (projects_as (λ b. b) (λ m. m.0) ((F.claimed s.0).projects at is.0))
-          (λ within. projects_as (λ b. b) (λ m. m.1) ((G.claimed s.1).projects within is.1));
-      takes = λ is some. made_of_takes (ReadsWithin O.view (G.claim s.1).grammar) tt
-          ((F.claimed s.0).takes is.0 some);
+    ghost lawful = { record {
+      law = λ is. and_then_law O.view is.2 (F.lawful.law is.0) (G.lawful.law is.1);
+      claimed = λ s. record {
+        projects = λ at is. and_then_projects O.view is.2 is.3
+            (projects_as (λ b. b) (λ m. m.0) ((F.lawful.claimed s.0).projects at is.0))
+            (λ within. projects_as (λ b. b) (λ m. m.1)
+            ((G.lawful.claimed s.1).projects within is.1));
+        takes = λ is some. made_of_takes (ReadsWithin O.view (G.terms.claim s.1).grammar) tt
+            ((F.lawful.claimed s.0).takes is.0 some);
+      };
     } };
 
     #[inline]

@@ -31,21 +31,25 @@ impl<'p, P: Parser<I, O, E>, I: Stream, O, E: ParserError<I>> Parser<I, O, E>
 
     ghost does = { ByRefDoes P.does };
 
-    ghost terms = { P.terms };
-
-    ghost claim = { λ s. record {
-      premise = (P.claim s.0).premise;
-      backtracks = (P.claim s.0).backtracks;
-      spares_memory = (P.claim s.0).spares_memory;
-      consumes = (P.claim s.0).consumes;
-      grammar = (P.claim s.0).grammar;
+    ghost terms = { record {
+      premise = P.terms.premise;
+      stable = P.terms.stable;
+      alike = P.terms.alike;
+      claim = λ s. record {
+        premise = (P.terms.claim s.0).premise;
+        backtracks = (P.terms.claim s.0).backtracks;
+        spares_memory = (P.terms.claim s.0).spares_memory;
+        consumes = (P.terms.claim s.0).consumes;
+        grammar = (P.terms.claim s.0).grammar;
+      };
     } };
 
-    ghost lawful = { λ is. by_ref_law (P.lawful is) };
-
-    ghost claimed = { λ s. record {
-      projects = λ at is. by_ref_projects ((P.claimed s.0).projects at is);
-      takes = λ is some. (P.claimed s.0).takes is some;
+    ghost lawful = { record {
+      law = λ is. by_ref_law (P.lawful.law is);
+      claimed = λ s. record {
+        projects = λ at is. by_ref_projects ((P.lawful.claimed s.0).projects at is);
+        takes = λ is some. (P.lawful.claimed s.0).takes is some;
+      };
     } };
 
     #[inline(always)]

@@ -47,21 +47,21 @@ impl<F: Parser<I, O, E>, I: Stream, O, E: ParserError<I>> Parser<I, O, E>
       premise = F.terms.premise;
       stable = ⊥;
       alike = F.terms.alike;
+      claim = λ s. record {
+        premise = (F.terms.claim s).premise;
+        backtracks = (F.terms.claim s).backtracks;
+        spares_memory = (F.terms.claim s).spares_memory;
+        consumes = (F.terms.claim s).consumes;
+        grammar = (F.terms.claim s).grammar;
+      };
     } };
 
-    ghost claim = { λ s. record {
-      premise = (F.claim s).premise;
-      backtracks = (F.claim s).backtracks;
-      spares_memory = (F.claim s).spares_memory;
-      consumes = (F.claim s).consumes;
-      grammar = (F.claim s).grammar;
-    } };
-
-    ghost lawful = { λ is. complete_err_law (F.lawful is) };
-
-    ghost claimed = { λ s. record {
-      projects = λ at is. complete_err_projects ((F.claimed s).projects at is);
-      takes = λ is some. (F.claimed s).takes is some;
+    ghost lawful = { record {
+      law = λ is. complete_err_law (F.lawful.law is);
+      claimed = λ s. record {
+        projects = λ at is. complete_err_projects ((F.lawful.claimed s).projects at is);
+        takes = λ is some. (F.lawful.claimed s).takes is some;
+      };
     } };
 
     #[inline]

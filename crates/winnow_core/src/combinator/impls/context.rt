@@ -61,23 +61,27 @@ impl<
 
     ghost does = { ContextDoes C.is_clone C.is_infallible F.does };
 
-    ghost terms = { F.terms };
-
-    ghost claim = { λ s. record {
-      premise = (F.claim s.0).premise;
-      backtracks = (F.claim s.0).backtracks;
-      spares_memory =
-          (F.claim s.0).spares_memory × C.is_infallible s.1.0 × NeverRefused C.is_clone s.1;
-      consumes = (F.claim s.0).consumes;
-      grammar = (F.claim s.0).grammar;
+    ghost terms = { record {
+      premise = F.terms.premise;
+      stable = F.terms.stable;
+      alike = F.terms.alike;
+      claim = λ s. record {
+        premise = (F.terms.claim s.0).premise;
+        backtracks = (F.terms.claim s.0).backtracks;
+        spares_memory =
+            (F.terms.claim s.0).spares_memory × C.is_infallible s.1.0 × NeverRefused C.is_clone s.1;
+        consumes = (F.terms.claim s.0).consumes;
+        grammar = (F.terms.claim s.0).grammar;
+      };
     } };
 
-    ghost lawful = { λ is. context_law C.is_clone C.is_infallible (F.lawful is) };
-
-    ghost claimed = { λ s. record {
-      projects = λ at is. context_projects C.is_clone C.is_infallible (λ m. (m.1, m.2))
-          (projects_as (λ b. b) (λ m. m.0) ((F.claimed s.0).projects at is));
-      takes = λ is some. (F.claimed s.0).takes is some;
+    ghost lawful = { record {
+      law = λ is. context_law C.is_clone C.is_infallible (F.lawful.law is);
+      claimed = λ s. record {
+        projects = λ at is. context_projects C.is_clone C.is_infallible (λ m. (m.1, m.2))
+            (projects_as (λ b. b) (λ m. m.0) ((F.lawful.claimed s.0).projects at is));
+        takes = λ is some. (F.lawful.claimed s.0).takes is some;
+      };
     } };
 
     #[inline]

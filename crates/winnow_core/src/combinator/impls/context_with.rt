@@ -3,7 +3,7 @@ ghost use Rattle.std.specs.Iterator.{IsFinite};
 ghost use Rattle.std.specs.Prelude.{◌≡◌};
 ghost use Rattle.stream_errors.specs.Given.{Keeping};
 ghost use Rattle.parser_definitions.specs.MapErr.{ContextWithDoes, context_with_law};
-ghost use Rattle.parser_definitions.specs.Claim.{no_claim, nothing_claimed};
+ghost use Rattle.parser_definitions.specs.Terms.{no_claim, nothing_claimed};
 
 use crate::parser::Parser;
 use std::alloc::Allocator;
@@ -65,13 +65,17 @@ impl<
 
     ghost does = { ContextWithDoes F.post FI.next_gives P.does };
 
-    ghost terms = { P.terms };
+    ghost terms = { record {
+      premise = P.terms.premise;
+      stable = P.terms.stable;
+      alike = P.terms.alike;
+      claim = λ _. no_claim;
+    } };
 
-    ghost claim = { λ _. no_claim };
-
-    ghost lawful = { λ is. context_with_law F.post FI.next_gives (P.lawful is) };
-
-    ghost claimed = { λ _. nothing_claimed };
+    ghost lawful = { record {
+      law = λ is. context_with_law F.post FI.next_gives (P.lawful.law is);
+      claimed = λ _. nothing_claimed;
+    } };
 
     #[inline]
     fn parse_next(&mut self, input: &mut I) -> Result<O, E> {

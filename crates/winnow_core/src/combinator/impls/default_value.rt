@@ -48,22 +48,23 @@ impl<F: Parser<I, O, E>, I: Stream, O: Drop, O2: Default, E: ParserError<I>> Par
       premise = F.terms.premise;
       stable = F.terms.stable;
       alike = λ u v. O2.is_default u × O2.is_default v;
+      claim = λ s. record {
+        premise = (F.terms.claim s).premise;
+        backtracks = (F.terms.claim s).backtracks;
+        spares_memory = (F.terms.claim s).spares_memory;
+        consumes = (F.terms.claim s).consumes;
+        grammar = Made (λ (_ : Unit {0}) o u. O2.is_default u) tt (F.terms.claim s).grammar;
+      };
     } };
 
-    ghost claim = { λ s. record {
-      premise = (F.claim s).premise;
-      backtracks = (F.claim s).backtracks;
-      spares_memory = (F.claim s).spares_memory;
-      consumes = (F.claim s).consumes;
-      grammar = Made (λ (_ : Unit {0}) o u. O2.is_default u) tt (F.claim s).grammar;
-    } };
-
-    ghost lawful = { λ is. default_value_law O2.is_default (λ u v x y. (x, y)) (F.lawful is) };
-
-    ghost claimed = { λ s. record {
-      projects = λ at is. default_value_projects ((F.claimed s).projects at is) O2.is_default;
-      takes = λ is some. made_of_takes (λ (_ : Unit {0}) o u. O2.is_default u) tt
-          ((F.claimed s).takes is some);
+    ghost lawful = { record {
+      law = λ is. default_value_law O2.is_default (λ u v x y. (x, y)) (F.lawful.law is);
+      claimed = λ s. record {
+        projects = λ at is. default_value_projects ((F.lawful.claimed s).projects at is)
+            O2.is_default;
+        takes = λ is some. made_of_takes (λ (_ : Unit {0}) o u. O2.is_default u) tt
+            ((F.lawful.claimed s).takes is some);
+      };
     } };
 
     #[inline]

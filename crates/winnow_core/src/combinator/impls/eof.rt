@@ -30,21 +30,21 @@ impl<I: Stream, E: ParserError<I>> Parser<I, I::Slice, E> for Eof {
       premise = ⊤;
       stable = ⊥;
       alike = ShowSame I.reading;
+      claim = λ s. record {
+        premise = ⊤;
+        backtracks = ⊤;
+        spares_memory = ⊤;
+        consumes = ⊥;
+        grammar = NoTokens I.reading;
+      };
     } };
 
-    ghost claim = { λ s. record {
-      premise = ⊤;
-      backtracks = ⊤;
-      spares_memory = ⊤;
-      consumes = ⊥;
-      grammar = NoTokens I.reading;
-    } };
-
-    ghost lawful = { λ is. eof_law I.reading };
-
-    ghost claimed = { λ s. record {
-      projects = λ at is. eof_projects I.reading;
-      takes = λ is never. absurd never;
+    ghost lawful = { record {
+      law = λ is. eof_law I.reading;
+      claimed = λ s. record {
+        projects = λ at is. eof_projects I.reading;
+        takes = λ is never. absurd never;
+      };
     } };
 
     #[inline(always)]

@@ -52,24 +52,25 @@ impl<F: Parser<I, O, E>, I: Stream, O, E: ParserError<I>, E2: ParserError<I> + F
       premise = F.terms.premise × ConvertsKinds E.kind E2.kind E2.from_gives;
       stable = F.terms.stable × (E.form ≡ modal);
       alike = F.terms.alike;
+      claim = λ s. record {
+        premise = (F.terms.claim s).premise × SameKinds E.kind E2.kind E2.from_gives;
+        backtracks = (F.terms.claim s).backtracks;
+        spares_memory =
+            (F.terms.claim s).spares_memory × ConvertsSparing E.kind E2.kind E2.from_gives;
+        consumes = (F.terms.claim s).consumes;
+        grammar = (F.terms.claim s).grammar;
+      };
     } };
 
-    ghost claim = { λ s. record {
-      premise = (F.claim s).premise × SameKinds E.kind E2.kind E2.from_gives;
-      backtracks = (F.claim s).backtracks;
-      spares_memory =
-          (F.claim s).spares_memory × ConvertsSparing E.kind E2.kind E2.from_gives;
-      consumes = (F.claim s).consumes;
-      grammar = (F.claim s).grammar;
-    } };
-
-    ghost lawful = { λ is. err_into_law E.form E.kind E2.kind E2.from_gives is.1
-        (F.lawful is.0) };
-
-    ghost claimed = { λ s. record {
-      projects = λ at is. err_into_projects E.form E.kind E2.kind E2.from_gives is.1 (λ m. m.1)
-          (projects_as (λ b. b) (λ m. m.0) ((F.claimed s).projects (formed E.form at) is.0));
-      takes = λ is some. (F.claimed s).takes is.0 some;
+    ghost lawful = { record {
+      law = λ is. err_into_law E.form E.kind E2.kind E2.from_gives is.1
+          (F.lawful.law is.0);
+      claimed = λ s. record {
+        projects = λ at is. err_into_projects E.form E.kind E2.kind E2.from_gives is.1 (λ m. m.1)
+            (projects_as (λ b. b) (λ m. m.0)
+            ((F.lawful.claimed s).projects (formed E.form at) is.0));
+        takes = λ is some. (F.lawful.claimed s).takes is.0 some;
+      };
     } };
 
     #[inline]

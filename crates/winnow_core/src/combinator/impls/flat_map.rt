@@ -65,40 +65,42 @@ impl<
       premise = F.terms.premise × H.terms.premise × MakesOne F.terms.alike G.step H.state;
       stable = F.terms.stable × H.terms.stable;
       alike = H.terms.alike;
+      claim = λ s. record {
+        premise = (F.terms.claim s.0).premise × Stays G.step s.1
+            × EachMade (Gives G.step) s.1 (λ m. (H.terms.claim (H.state m)).premise)
+            × MadeAlike (Gives G.step) s.1 (λ m. (H.terms.claim (H.state m)).grammar)
+            (F.terms.claim s.0).grammar;
+        backtracks =
+            (F.terms.claim s.0).backtracks
+            × EachMade (Gives G.step) s.1 (λ m. (H.terms.claim (H.state m)).backtracks);
+        spares_memory =
+            (F.terms.claim s.0).spares_memory
+            × EachMade (Gives G.step) s.1 (λ m. (H.terms.claim (H.state m)).spares_memory);
+        consumes = (F.terms.claim s.0).consumes
+            ⊎ EachMade (Gives G.step) s.1 (λ m. (H.terms.claim (H.state m)).consumes);
+        grammar = FlatMapped (Gives G.step) s.1 (λ m. (H.terms.claim (H.state m)).grammar)
+            (F.terms.claim s.0).grammar;
+      };
     } };
 
-    ghost claim = { λ s. record {
-      premise = (F.claim s.0).premise × Stays G.step s.1
-          × EachMade (Gives G.step) s.1 (λ m. (H.claim (H.state m)).premise)
-          × MadeAlike (Gives G.step) s.1 (λ m. (H.claim (H.state m)).grammar)
-          (F.claim s.0).grammar;
-      backtracks =
-          (F.claim s.0).backtracks
-          × EachMade (Gives G.step) s.1 (λ m. (H.claim (H.state m)).backtracks);
-      spares_memory =
-          (F.claim s.0).spares_memory
-          × EachMade (Gives G.step) s.1 (λ m. (H.claim (H.state m)).spares_memory);
-      consumes = (F.claim s.0).consumes
-          ⊎ EachMade (Gives G.step) s.1 (λ m. (H.claim (H.state m)).consumes);
-      grammar = FlatMapped (Gives G.step) s.1 (λ m. (H.claim (H.state m)).grammar)
-          (F.claim s.0).grammar;
-    } };
-
-    ghost lawful = { λ is. flat_map_law G.step H.state is.2 (F.lawful is.0)
-        (H.lawful is.1) };
-
-    ghost claimed = { λ s. record {
-      projects = λ at is. flat_map_projects G.step H.state (λ m. (H.claim (H.state m)).grammar)
-          is.1 is.3 (projects_as (λ b. b.0) (λ m. m.0) ((F.claimed s.0).projects at is.0))
-          (λ o made m. projects_as (λ b. b.1 o made m) (λ x. x.1 o made m)
-          ((H.claimed (H.state made)).projects at (is.2 o made m)));
-      takes = λ is some. flat_mapped_takes (Gives G.step) s.1 (λ m. (H.claim (H.state m)).grammar)
-          ((F.claimed s.0).projects (record { form = modal; possible = true }) is.0).unique
-          (λ o made m. ((H.claimed (H.state made)).projects
-          (record { form = modal; possible = true }) (is.2 o made m)).unique)
-          (either_way ((F.claimed s.0).takes is.0)
-          (λ each o made m. (H.claimed (H.state made)).takes (is.2 o made m)
-          (each o made m)) some);
+    ghost lawful = { record {
+      law = λ is. flat_map_law G.step H.state is.2 (F.lawful.law is.0)
+          (H.lawful.law is.1);
+      claimed = λ s. record {
+        projects = λ at is. flat_map_projects G.step H.state
+            (λ m. (H.terms.claim (H.state m)).grammar)
+            is.1 is.3 (projects_as (λ b. b.0) (λ m. m.0) ((F.lawful.claimed s.0).projects at is.0))
+            (λ o made m. projects_as (λ b. b.1 o made m) (λ x. x.1 o made m)
+            ((H.lawful.claimed (H.state made)).projects at (is.2 o made m)));
+        takes = λ is some. flat_mapped_takes (Gives G.step) s.1
+            (λ m. (H.terms.claim (H.state m)).grammar)
+            ((F.lawful.claimed s.0).projects (record { form = modal; possible = true }) is.0).unique
+            (λ o made m. ((H.lawful.claimed (H.state made)).projects
+            (record { form = modal; possible = true }) (is.2 o made m)).unique)
+            (either_way ((F.lawful.claimed s.0).takes is.0)
+            (λ each o made m. (H.lawful.claimed (H.state made)).takes (is.2 o made m)
+            (each o made m)) some);
+      };
     } };
 
     #[inline]

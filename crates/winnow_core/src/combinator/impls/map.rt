@@ -53,21 +53,22 @@ impl<F: Parser<I, O, E>, G: FnMut(O) -> O2, I: Stream, O, O2, E: ParserError<I>>
       premise = F.terms.premise × StepsAlike F.terms.alike G.step;
       stable = F.terms.stable;
       alike = MadeAlike F.terms.alike G.step;
+      claim = λ s. record {
+        premise = (F.terms.claim s.0).premise × Stays G.step s.1;
+        backtracks = (F.terms.claim s.0).backtracks;
+        spares_memory = (F.terms.claim s.0).spares_memory;
+        consumes = (F.terms.claim s.0).consumes;
+        grammar = Made (Gives G.step) s.1 (F.terms.claim s.0).grammar;
+      };
     } };
 
-    ghost claim = { λ s. record {
-      premise = (F.claim s.0).premise × Stays G.step s.1;
-      backtracks = (F.claim s.0).backtracks;
-      spares_memory = (F.claim s.0).spares_memory;
-      consumes = (F.claim s.0).consumes;
-      grammar = Made (Gives G.step) s.1 (F.claim s.0).grammar;
-    } };
-
-    ghost lawful = { λ is. map_law G.step is.1 (F.lawful is.0) };
-
-    ghost claimed = { λ s. record {
-      projects = λ at is. map_projects G.step is.1 ((F.claimed s.0).projects at is.0);
-      takes = λ is some. made_of_takes (Gives G.step) s.1 ((F.claimed s.0).takes is.0 some);
+    ghost lawful = { record {
+      law = λ is. map_law G.step is.1 (F.lawful.law is.0);
+      claimed = λ s. record {
+        projects = λ at is. map_projects G.step is.1 ((F.lawful.claimed s.0).projects at is.0);
+        takes = λ is some. made_of_takes (Gives G.step) s.1
+            ((F.lawful.claimed s.0).takes is.0 some);
+      };
     } };
 
     #[inline(always)]

@@ -62,22 +62,22 @@ impl<
       premise = F.terms.premise × OneNext E.kind G.step;
       stable = F.terms.stable;
       alike = F.terms.alike;
+      claim = λ s. record {
+        premise = (F.terms.claim s.0).premise × Stays G.step s.1;
+        backtracks = (F.terms.claim s.0).backtracks;
+        spares_memory = (F.terms.claim s.0).spares_memory;
+        consumes = (F.terms.claim s.0).consumes;
+        grammar = (F.terms.claim s.0).grammar;
+      };
     } };
 
-    ghost claim = { λ s. record {
-      premise = (F.claim s.0).premise × Stays G.step s.1;
-      backtracks = (F.claim s.0).backtracks;
-      spares_memory = (F.claim s.0).spares_memory;
-      consumes = (F.claim s.0).consumes;
-      grammar = (F.claim s.0).grammar;
-    } };
-
-    ghost lawful = { λ is. map_err_kept_law E.kind E2.kind G.step is.1 (F.lawful is.0) };
-
-    ghost claimed = { λ s. record {
-      projects = λ at is. map_err_kept_projects E.kind E2.kind G.step is.1
-          ((F.claimed s.0).projects at is.0);
-      takes = λ is some. (F.claimed s.0).takes is.0 some;
+    ghost lawful = { record {
+      law = λ is. map_err_kept_law E.kind E2.kind G.step is.1 (F.lawful.law is.0);
+      claimed = λ s. record {
+        projects = λ at is. map_err_kept_projects E.kind E2.kind G.step is.1
+            ((F.lawful.claimed s.0).projects at is.0);
+        takes = λ is some. (F.lawful.claimed s.0).takes is.0 some;
+      };
     } };
 
     #[inline]

@@ -49,22 +49,23 @@ impl<F: Parser<I, O, E>, I: Stream, O, O2: From<O>, E: ParserError<I>> Parser<I,
       premise = F.terms.premise;
       stable = F.terms.stable;
       alike = OutputsMadeAlike F.terms.alike O2.from_gives;
+      claim = λ s. record {
+        premise = (F.terms.claim s).premise;
+        backtracks = (F.terms.claim s).backtracks;
+        spares_memory = (F.terms.claim s).spares_memory;
+        consumes = (F.terms.claim s).consumes;
+        grammar = Made (λ (_ : Unit {0}) o u. O2.from_gives o u) tt (F.terms.claim s).grammar;
+      };
     } };
 
-    ghost claim = { λ s. record {
-      premise = (F.claim s).premise;
-      backtracks = (F.claim s).backtracks;
-      spares_memory = (F.claim s).spares_memory;
-      consumes = (F.claim s).consumes;
-      grammar = Made (λ (_ : Unit {0}) o u. O2.from_gives o u) tt (F.claim s).grammar;
-    } };
-
-    ghost lawful = { λ is. output_into_law O2.from_gives (F.lawful is) };
-
-    ghost claimed = { λ s. record {
-      projects = λ at is. output_into_projects ((F.claimed s).projects at is) O2.from_gives;
-      takes = λ is some. made_of_takes (λ (_ : Unit {0}) o u. O2.from_gives o u) tt
-          ((F.claimed s).takes is some);
+    ghost lawful = { record {
+      law = λ is. output_into_law O2.from_gives (F.lawful.law is);
+      claimed = λ s. record {
+        projects = λ at is. output_into_projects ((F.lawful.claimed s).projects at is)
+            O2.from_gives;
+        takes = λ is some. made_of_takes (λ (_ : Unit {0}) o u. O2.from_gives o u) tt
+            ((F.lawful.claimed s).takes is some);
+      };
     } };
 
     #[inline]

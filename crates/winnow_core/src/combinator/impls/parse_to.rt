@@ -56,22 +56,23 @@ impl<F: Parser<I, O, E>, I: Stream, O: ParseSlice<O2> + Drop, O2, E: ParserError
       premise = F.terms.premise × ReadsAlike F.terms.alike O.reads;
       stable = F.terms.stable;
       alike = AlikeRead F.terms.alike O.reads;
+      claim = λ s. record {
+        premise = (F.terms.claim s).premise
+            × RejectsAll (ReadsSome O.reads) (ReadsNone O.reads) tt (F.terms.claim s).grammar;
+        backtracks = (F.terms.claim s).backtracks;
+        spares_memory = (F.terms.claim s).spares_memory;
+        consumes = (F.terms.claim s).consumes;
+        grammar = Made (ReadsSome O.reads) tt (F.terms.claim s).grammar;
+      };
     } };
 
-    ghost claim = { λ s. record {
-      premise = (F.claim s).premise
-          × RejectsAll (ReadsSome O.reads) (ReadsNone O.reads) tt (F.claim s).grammar;
-      backtracks = (F.claim s).backtracks;
-      spares_memory = (F.claim s).spares_memory;
-      consumes = (F.claim s).consumes;
-      grammar = Made (ReadsSome O.reads) tt (F.claim s).grammar;
-    } };
-
-    ghost lawful = { λ is. parse_to_law O.reads (read_alike O.reads is.1) (F.lawful is.0) };
-
-    ghost claimed = { λ s. record {
-      projects = λ at is. parse_to_projects O.reads is.1 ((F.claimed s).projects at is.0);
-      takes = λ is some. made_of_takes (ReadsSome O.reads) tt ((F.claimed s).takes is.0 some);
+    ghost lawful = { record {
+      law = λ is. parse_to_law O.reads (read_alike O.reads is.1) (F.lawful.law is.0);
+      claimed = λ s. record {
+        projects = λ at is. parse_to_projects O.reads is.1 ((F.lawful.claimed s).projects at is.0);
+        takes = λ is some. made_of_takes (ReadsSome O.reads) tt
+            ((F.lawful.claimed s).takes is.0 some);
+      };
     } };
 
     #[inline]

@@ -51,21 +51,21 @@ impl<F: Parser<I, O, E>, I: Stream, O: Drop, E: ParserError<I>> Parser<I, I::Sli
       premise = F.terms.premise;
       stable = F.terms.stable;
       alike = ShowSame I.reading;
+      claim = λ s. record {
+        premise = (F.terms.claim s).premise;
+        backtracks = (F.terms.claim s).backtracks;
+        spares_memory = (F.terms.claim s).spares_memory;
+        consumes = (F.terms.claim s).consumes;
+        grammar = Taken I.reading (F.terms.claim s).grammar;
+      };
     } };
 
-    ghost claim = { λ s. record {
-      premise = (F.claim s).premise;
-      backtracks = (F.claim s).backtracks;
-      spares_memory = (F.claim s).spares_memory;
-      consumes = (F.claim s).consumes;
-      grammar = Taken I.reading (F.claim s).grammar;
-    } };
-
-    ghost lawful = { λ is. take_law I.reading (F.lawful is) };
-
-    ghost claimed = { λ s. record {
-      projects = λ at is. take_projects ((F.claimed s).projects at is) I.reading;
-      takes = λ is some. taken_takes I.reading ((F.claimed s).takes is some);
+    ghost lawful = { record {
+      law = λ is. take_law I.reading (F.lawful.law is);
+      claimed = λ s. record {
+        projects = λ at is. take_projects ((F.lawful.claimed s).projects at is) I.reading;
+        takes = λ is some. taken_takes I.reading ((F.lawful.claimed s).takes is some);
+      };
     } };
 
     #[inline]

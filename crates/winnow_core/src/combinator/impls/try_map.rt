@@ -65,23 +65,24 @@ impl<
       premise = F.terms.premise × TriesAlike F.terms.alike G.step;
       stable = F.terms.stable;
       alike = MadeAlike F.terms.alike (λ f o u g. G.step f o (Ok u) g);
+      claim = λ s. record {
+        premise = (F.terms.claim s.0).premise × Stays G.step s.1.0
+            × RejectsAll (GivesOk G.step) (GivesErr G.step) s.1.0 (F.terms.claim s.0).grammar;
+        backtracks = (F.terms.claim s.0).backtracks;
+        spares_memory = (F.terms.claim s.0).spares_memory × ErrorsKept s.1.1;
+        consumes = (F.terms.claim s.0).consumes;
+        grammar = Made (GivesOk G.step) s.1.0 (F.terms.claim s.0).grammar;
+      };
     } };
 
-    ghost claim = { λ s. record {
-      premise = (F.claim s.0).premise × Stays G.step s.1.0
-          × RejectsAll (GivesOk G.step) (GivesErr G.step) s.1.0 (F.claim s.0).grammar;
-      backtracks = (F.claim s.0).backtracks;
-      spares_memory = (F.claim s.0).spares_memory × ErrorsKept s.1.1;
-      consumes = (F.claim s.0).consumes;
-      grammar = Made (GivesOk G.step) s.1.0 (F.claim s.0).grammar;
-    } };
-
-    ghost lawful = { λ is. try_map_law F.terms.alike G.step is.1 (F.lawful is.0) };
-
-    ghost claimed = { λ s. record {
-      projects = λ at is. try_map_projects G.step is.1 (λ m. m.1) is.2
-          (projects_as (λ b. b) (λ m. m.0) ((F.claimed s.0).projects at is.0));
-      takes = λ is some. made_of_takes (GivesOk G.step) s.1.0 ((F.claimed s.0).takes is.0 some);
+    ghost lawful = { record {
+      law = λ is. try_map_law F.terms.alike G.step is.1 (F.lawful.law is.0);
+      claimed = λ s. record {
+        projects = λ at is. try_map_projects G.step is.1 (λ m. m.1) is.2
+            (projects_as (λ b. b) (λ m. m.0) ((F.lawful.claimed s.0).projects at is.0));
+        takes = λ is some. made_of_takes (GivesOk G.step) s.1.0
+            ((F.lawful.claimed s.0).takes is.0 some);
+      };
     } };
 
     #[inline]

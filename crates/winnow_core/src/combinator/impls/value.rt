@@ -52,24 +52,24 @@ impl<F: Parser<I, O, E>, I: Stream, O: Drop, O2: Clone, E: ParserError<I>> Parse
       premise = F.terms.premise;
       stable = F.terms.stable;
       alike = AlikeClones O2.is_clone;
+      claim = λ s. record {
+        premise = (F.terms.claim s.0).premise;
+        backtracks = (F.terms.claim s.0).backtracks;
+        spares_memory = (F.terms.claim s.0).spares_memory × O2.is_infallible s.1;
+        consumes = (F.terms.claim s.0).consumes;
+        grammar = Made (λ v o u. O2.is_clone v u) s.1 (F.terms.claim s.0).grammar;
+      };
     } };
 
-    ghost claim = { λ s. record {
-      premise = (F.claim s.0).premise;
-      backtracks = (F.claim s.0).backtracks;
-      spares_memory = (F.claim s.0).spares_memory × O2.is_infallible s.1;
-      consumes = (F.claim s.0).consumes;
-      grammar = Made (λ v o u. O2.is_clone v u) s.1 (F.claim s.0).grammar;
-    } };
-
-    ghost lawful = { λ is. value_law O2.is_clone O2.is_infallible (λ value u v x y. (value, x, y))
-        (F.lawful is) };
-
-    ghost claimed = { λ s. record {
-      projects = λ at is. value_projects O2.is_clone O2.is_infallible (λ m. m.1)
-          (projects_as (λ b. b) (λ m. m.0) ((F.claimed s.0).projects at is));
-      takes = λ is some. made_of_takes (λ v o u. O2.is_clone v u) s.1
-          ((F.claimed s.0).takes is some);
+    ghost lawful = { record {
+      law = λ is. value_law O2.is_clone O2.is_infallible (λ value u v x y. (value, x, y))
+          (F.lawful.law is);
+      claimed = λ s. record {
+        projects = λ at is. value_projects O2.is_clone O2.is_infallible (λ m. m.1)
+            (projects_as (λ b. b) (λ m. m.0) ((F.lawful.claimed s.0).projects at is));
+        takes = λ is some. made_of_takes (λ v o u. O2.is_clone v u) s.1
+            ((F.lawful.claimed s.0).takes is some);
+      };
     } };
 
     #[inline]

@@ -57,25 +57,25 @@ impl<F: Parser<I, O, E>, G: FnMut(&O) -> bool, I: Stream, O: Drop, E: ParserErro
       premise = F.terms.premise × FindsAlike F.terms.alike (CalledAt G.FnMut);
       stable = F.terms.stable;
       alike = F.terms.alike;
+      claim = λ s. record {
+        premise = (F.terms.claim s.0).premise × Stays (CalledAt G.FnMut) s.1
+            × RejectsAll (Finds (CalledAt G.FnMut)) (Misses (CalledAt G.FnMut)) s.1
+            (F.terms.claim s.0).grammar;
+        backtracks = (F.terms.claim s.0).backtracks;
+        spares_memory = (F.terms.claim s.0).spares_memory;
+        consumes = (F.terms.claim s.0).consumes;
+        grammar = Made (Finds (CalledAt G.FnMut)) s.1 (F.terms.claim s.0).grammar;
+      };
     } };
 
-    ghost claim = { λ s. record {
-      premise = (F.claim s.0).premise × Stays (CalledAt G.FnMut) s.1
-          × RejectsAll (Finds (CalledAt G.FnMut)) (Misses (CalledAt G.FnMut)) s.1
-          (F.claim s.0).grammar;
-      backtracks = (F.claim s.0).backtracks;
-      spares_memory = (F.claim s.0).spares_memory;
-      consumes = (F.claim s.0).consumes;
-      grammar = Made (Finds (CalledAt G.FnMut)) s.1 (F.claim s.0).grammar;
-    } };
-
-    ghost lawful = { λ is. verify_law (CalledAt G.FnMut) is.1 (F.lawful is.0) };
-
-    ghost claimed = { λ s. record {
-      projects = λ at is. verify_projects (CalledAt G.FnMut) is.1 is.2
-          ((F.claimed s.0).projects at is.0);
-      takes = λ is some. made_of_takes (Finds (CalledAt G.FnMut)) s.1
-          ((F.claimed s.0).takes is.0 some);
+    ghost lawful = { record {
+      law = λ is. verify_law (CalledAt G.FnMut) is.1 (F.lawful.law is.0);
+      claimed = λ s. record {
+        projects = λ at is. verify_projects (CalledAt G.FnMut) is.1 is.2
+            ((F.lawful.claimed s.0).projects at is.0);
+        takes = λ is some. made_of_takes (Finds (CalledAt G.FnMut)) s.1
+            ((F.lawful.claimed s.0).takes is.0 some);
+      };
     } };
 
     #[inline]

@@ -47,22 +47,22 @@ impl<F: Parser<I, O, E>, I: Stream, O: Drop, E: ParserError<I>> Parser<I, (), E>
       premise = F.terms.premise;
       stable = F.terms.stable;
       alike = λ u v. u ≡ v;
+      claim = λ s. record {
+        premise = (F.terms.claim s).premise;
+        backtracks = (F.terms.claim s).backtracks;
+        spares_memory = (F.terms.claim s).spares_memory;
+        consumes = (F.terms.claim s).consumes;
+        grammar = Made (λ (_ : Unit {0}) o (u : Unit {0}). ⊤) tt (F.terms.claim s).grammar;
+      };
     } };
 
-    ghost claim = { λ s. record {
-      premise = (F.claim s).premise;
-      backtracks = (F.claim s).backtracks;
-      spares_memory = (F.claim s).spares_memory;
-      consumes = (F.claim s).consumes;
-      grammar = Made (λ (_ : Unit {0}) o (u : Unit {0}). ⊤) tt (F.claim s).grammar;
-    } };
-
-    ghost lawful = { λ is. void_law (F.lawful is) };
-
-    ghost claimed = { λ s. record {
-      projects = λ at is. void_projects ((F.claimed s).projects at is);
-      takes = λ is some. made_of_takes (λ (_ : Unit {0}) o (u : Unit {0}). ⊤) tt
-          ((F.claimed s).takes is some);
+    ghost lawful = { record {
+      law = λ is. void_law (F.lawful.law is);
+      claimed = λ s. record {
+        projects = λ at is. void_projects ((F.lawful.claimed s).projects at is);
+        takes = λ is some. made_of_takes (λ (_ : Unit {0}) o (u : Unit {0}). ⊤) tt
+            ((F.lawful.claimed s).takes is some);
+      };
     } };
 
     #[inline(always)]

@@ -51,21 +51,21 @@ impl<F: Parser<I, O, E>, I: Location, O, E: ParserError<I>> Parser<I, (O, Range<
       premise = F.terms.premise;
       stable = F.terms.stable;
       alike = AlikePairs F.terms.alike (λ u v. u ≡ v);
+      claim = λ s. record {
+        premise = (F.terms.claim s).premise;
+        backtracks = (F.terms.claim s).backtracks;
+        spares_memory = (F.terms.claim s).spares_memory;
+        consumes = (F.terms.claim s).consumes;
+        grammar = Made WithPlaces tt (F.terms.claim s).grammar;
+      };
     } };
 
-    ghost claim = { λ s. record {
-      premise = (F.claim s).premise;
-      backtracks = (F.claim s).backtracks;
-      spares_memory = (F.claim s).spares_memory;
-      consumes = (F.claim s).consumes;
-      grammar = Made WithPlaces tt (F.claim s).grammar;
-    } };
-
-    ghost lawful = { λ is. with_span_law (F.lawful is) };
-
-    ghost claimed = { λ s. record {
-      projects = λ at is. with_span_projects ((F.claimed s).projects at is);
-      takes = λ is some. made_of_takes WithPlaces tt ((F.claimed s).takes is some);
+    ghost lawful = { record {
+      law = λ is. with_span_law (F.lawful.law is);
+      claimed = λ s. record {
+        projects = λ at is. with_span_projects ((F.lawful.claimed s).projects at is);
+        takes = λ is some. made_of_takes WithPlaces tt ((F.lawful.claimed s).takes is some);
+      };
     } };
 
     #[inline(always)]

@@ -51,21 +51,21 @@ impl<F: Parser<I, O, E>, I: Stream, O, E: ParserError<I>> Parser<I, (O, I::Slice
       premise = F.terms.premise;
       stable = F.terms.stable;
       alike = AlikePairs F.terms.alike (ShowSame I.reading);
+      claim = λ s. record {
+        premise = (F.terms.claim s).premise;
+        backtracks = (F.terms.claim s).backtracks;
+        spares_memory = (F.terms.claim s).spares_memory;
+        consumes = (F.terms.claim s).consumes;
+        grammar = AndTaken I.reading (F.terms.claim s).grammar;
+      };
     } };
 
-    ghost claim = { λ s. record {
-      premise = (F.claim s).premise;
-      backtracks = (F.claim s).backtracks;
-      spares_memory = (F.claim s).spares_memory;
-      consumes = (F.claim s).consumes;
-      grammar = AndTaken I.reading (F.claim s).grammar;
-    } };
-
-    ghost lawful = { λ is. with_taken_law I.reading (F.lawful is) };
-
-    ghost claimed = { λ s. record {
-      projects = λ at is. with_taken_projects ((F.claimed s).projects at is) I.reading;
-      takes = λ is some. and_taken_takes I.reading ((F.claimed s).takes is some);
+    ghost lawful = { record {
+      law = λ is. with_taken_law I.reading (F.lawful.law is);
+      claimed = λ s. record {
+        projects = λ at is. with_taken_projects ((F.lawful.claimed s).projects at is) I.reading;
+        takes = λ is some. and_taken_takes I.reading ((F.lawful.claimed s).takes is some);
+      };
     } };
 
     #[inline]

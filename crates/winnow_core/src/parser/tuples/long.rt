@@ -43,19 +43,21 @@ impl<
       stable = ((P1.terms.stable × P2.terms.stable × P3.terms.stable) × P4.terms.stable)
           × P5.terms.stable;
       alike = AlikeFive P1.terms.alike P2.terms.alike P3.terms.alike P4.terms.alike P5.terms.alike;
+      claim = λ s. both_claim join5
+          (both_claim join4
+          (three_claim (λ o1 o2 o3. (o1, o2, o3)) (P1.terms.claim s.0) (P2.terms.claim s.1)
+          (P3.terms.claim s.2)) (P4.terms.claim s.3)) (P5.terms.claim s.4);
     } };
 
-    ghost claim = { λ s. both_claim join5
-        (both_claim join4 (three_claim (λ o1 o2 o3. (o1, o2, o3)) (P1.claim s.0)
-        (P2.claim s.1) (P3.claim s.2)) (P4.claim s.3)) (P5.claim s.4) };
-
-    ghost lawful = { λ is. sequence5_law (P1.lawful is.0) (P2.lawful is.1) (P3.lawful is.2)
-        (P4.lawful is.3) (P5.lawful is.4) };
-
-    ghost claimed = { λ s. joined_claimed join5 split5 join5 refl
-        (joined_claimed join4 split4 join4 refl
-        (three_claimed (λ o1 o2 o3. (o1, o2, o3)) (P1.claimed s.0) (P2.claimed s.1)
-        (P3.claimed s.2)) (P4.claimed s.3)) (P5.claimed s.4) };
+    ghost lawful = { record {
+      law = λ is. sequence5_law (P1.lawful.law is.0) (P2.lawful.law is.1) (P3.lawful.law is.2)
+          (P4.lawful.law is.3) (P5.lawful.law is.4);
+      claimed = λ s. joined_claimed join5 split5 join5 refl
+          (joined_claimed join4 split4 join4 refl
+          (three_claimed (λ o1 o2 o3. (o1, o2, o3)) (P1.lawful.claimed s.0)
+          (P2.lawful.claimed s.1) (P3.lawful.claimed s.2)) (P4.lawful.claimed s.3))
+          (P5.lawful.claimed s.4);
+    } };
 
     #[inline(always)]
     fn parse_next(&mut self, input: &mut I) -> Result<(O1, O2, O3, O4, O5), E> {
@@ -107,21 +109,24 @@ impl<
           × P5.terms.stable) × P6.terms.stable;
       alike = AlikeSix P1.terms.alike P2.terms.alike P3.terms.alike P4.terms.alike
           P5.terms.alike P6.terms.alike;
+      claim = λ s. both_claim join6
+          (both_claim join5
+          (both_claim join4
+          (three_claim (λ o1 o2 o3. (o1, o2, o3)) (P1.terms.claim s.0)
+          (P2.terms.claim s.1) (P3.terms.claim s.2)) (P4.terms.claim s.3))
+          (P5.terms.claim s.4)) (P6.terms.claim s.5);
     } };
 
-    ghost claim = { λ s. both_claim join6
-        (both_claim join5 (both_claim join4
-        (three_claim (λ o1 o2 o3. (o1, o2, o3)) (P1.claim s.0) (P2.claim s.1)
-        (P3.claim s.2)) (P4.claim s.3)) (P5.claim s.4)) (P6.claim s.5) };
-
-    ghost lawful = { λ is. sequence6_law (P1.lawful is.0) (P2.lawful is.1) (P3.lawful is.2)
-        (P4.lawful is.3) (P5.lawful is.4) (P6.lawful is.5) };
-
-    ghost claimed = { λ s. joined_claimed join6 split6 join6 refl
-        (joined_claimed join5 split5 join5 refl
-        (joined_claimed join4 split4 join4 refl
-        (three_claimed (λ o1 o2 o3. (o1, o2, o3)) (P1.claimed s.0) (P2.claimed s.1)
-        (P3.claimed s.2)) (P4.claimed s.3)) (P5.claimed s.4)) (P6.claimed s.5) };
+    ghost lawful = { record {
+      law = λ is. sequence6_law (P1.lawful.law is.0) (P2.lawful.law is.1) (P3.lawful.law is.2)
+          (P4.lawful.law is.3) (P5.lawful.law is.4) (P6.lawful.law is.5);
+      claimed = λ s. joined_claimed join6 split6 join6 refl
+          (joined_claimed join5 split5 join5 refl
+          (joined_claimed join4 split4 join4 refl
+          (three_claimed (λ o1 o2 o3. (o1, o2, o3)) (P1.lawful.claimed s.0)
+          (P2.lawful.claimed s.1) (P3.lawful.claimed s.2)) (P4.lawful.claimed s.3))
+          (P5.lawful.claimed s.4)) (P6.lawful.claimed s.5);
+    } };
 
     #[inline(always)]
     fn parse_next(&mut self, input: &mut I) -> Result<(O1, O2, O3, O4, O5, O6), E> {

@@ -5,7 +5,7 @@ ghost use Rattle.parser_definitions.specs.Escaped.{escaped_law};
 ghost use Rattle.parser_definitions.specs.Folding.{Built, gathering};
 ghost use Rattle.winnow_escapes.specs.Escaped.{escaped_control, escaped_escape};
 ghost use Rattle.winnow_escapes.specs.Escaped.{escaped_normal};
-ghost use Rattle.parser_definitions.specs.Claim.{no_claim, nothing_claimed};
+ghost use Rattle.parser_definitions.specs.Terms.{no_claim, nothing_claimed};
 
 use crate::ascii::turns::read_turns;
 use std::marker::PhantomData;
@@ -80,14 +80,15 @@ impl<
       alike = Built (gathering {Q = N.State × K.State × X.State}
           (either_kept ⟦<C as Accumulate<O, A>>⟧.accumulator
           ⟦<C as Accumulate<P, A>>⟧.accumulator)) (AlikeSides N.terms.alike X.terms.alike);
+      claim = λ _. no_claim;
     } };
 
-    ghost claim = { λ _. no_claim };
-
-    ghost lawful = { λ is. escaped_law ⟦<C as Accumulate<O, A>>⟧.accumulator
-        ⟦<C as Accumulate<P, A>>⟧.accumulator (N.lawful is.0) (K.lawful is.1) (X.lawful is.2) };
-
-    ghost claimed = { λ _. nothing_claimed };
+    ghost lawful = { record {
+      law = λ is. escaped_law ⟦<C as Accumulate<O, A>>⟧.accumulator
+          ⟦<C as Accumulate<P, A>>⟧.accumulator (N.lawful.law is.0) (K.lawful.law is.1)
+          (X.lawful.law is.2);
+      claimed = λ _. nothing_claimed;
+    } };
 
     fn parse_next(&mut self, input: &mut I) -> Result<C, E> {
         match <C as Accumulate<O, A>>::initial(self.alloc, Some(64)) {

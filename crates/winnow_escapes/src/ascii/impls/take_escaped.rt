@@ -5,7 +5,7 @@ ghost use Rattle.parser_definitions.specs.Spelled.{ShowSame};
 ghost use Rattle.parser_definitions.specs.TakeEscaped.{TakeEscapedDoes, take_escaped_law};
 ghost use Rattle.winnow_escapes.specs.TakeEscaped.{take_escaped_control, take_escaped_escapable};
 ghost use Rattle.winnow_escapes.specs.TakeEscaped.{take_escaped_normal};
-ghost use Rattle.parser_definitions.specs.Claim.{no_claim, nothing_claimed};
+ghost use Rattle.parser_definitions.specs.Terms.{no_claim, nothing_claimed};
 
 use crate::ascii::impls::Escaped;
 use stream_errors::control::ControlError;
@@ -81,14 +81,14 @@ impl<
       premise = N.terms.premise × K.terms.premise × X.terms.premise;
       stable = N.terms.stable × (Settled K.does × X.terms.stable);
       alike = ShowSame I.reading;
+      claim = λ _. no_claim;
     } };
 
-    ghost claim = { λ _. no_claim };
-
-    ghost lawful = { λ is. take_escaped_law I.reading (N.lawful is.0) (K.lawful is.1)
-        (X.lawful is.2) };
-
-    ghost claimed = { λ _. nothing_claimed };
+    ghost lawful = { record {
+      law = λ is. take_escaped_law I.reading (N.lawful.law is.0) (K.lawful.law is.1)
+          (X.lawful.law is.2);
+      claimed = λ _. nothing_claimed;
+    } };
 
     #[inline]
     fn parse_next(&mut self, input: &mut I) -> Result<I::Slice, E> {

@@ -6,7 +6,7 @@ ghost use Rattle.parser_definitions.specs.Expression.One.{OperatorsOne};
 ghost use Rattle.winnow_expression.specs.Definition.{operators};
 ghost use Rattle.winnow_expression.specs.Expression.{infix_of, level_of, operand_of};
 ghost use Rattle.winnow_expression.specs.Expression.{postfix_of, prefix_of};
-ghost use Rattle.parser_definitions.specs.Claim.{no_claim, nothing_claimed};
+ghost use Rattle.parser_definitions.specs.Terms.{no_claim, nothing_claimed};
 
 use crate::combinator::folds::{FoldBinary, FoldUnary};
 use crate::combinator::machine::expression_from;
@@ -222,14 +222,15 @@ impl<
           × OperatorsWhole (operators I.reading.units F.folds G.folds H.folds);
       stable = ⊥;
       alike = P.terms.alike;
+      claim = λ _. no_claim;
     } };
 
-    ghost claim = { λ _. no_claim };
-
-    ghost lawful = { λ is. expression_law (operators I.reading.units F.folds G.folds H.folds) is.1
-        is.2 (P.lawful is.0.0) (Pre.lawful is.0.1) (Post.lawful is.0.2) (Pix.lawful is.0.3) };
-
-    ghost claimed = { λ _. nothing_claimed };
+    ghost lawful = { record {
+      law = λ is. expression_law (operators I.reading.units F.folds G.folds H.folds) is.1
+          is.2 (P.lawful.law is.0.0) (Pre.lawful.law is.0.1) (Post.lawful.law is.0.2)
+          (Pix.lawful.law is.0.3);
+      claimed = λ _. nothing_claimed;
+    } };
 
     #[inline(always)]
     fn parse_next(&mut self, input: &mut I) -> Result<O, E> {

@@ -3,4 +3,4 @@ use Rattle.winnow_grammar.proofs.laws.longer_inputs_get_partial_results.Goals as
 
 pub returns : goal.returns
 returns g c = λ has premise stable.
-    same_on_longer g.I.Stream.reading (g.met.P.Parser.lawful premise) stable has
+    same_on_longer g.I.Stream.reading (g.met.P.Parser.lawful.law premise) stable has

@@ -32,23 +32,27 @@ where
 
     ghost does = { DecIntDoes O.number O.fits I.seen_as I.Token.code I.reading };
 
-    ghost terms = { record { premise = ⊤; stable = ⊤; alike = OneNumber O.number } };
-
-    ghost claim = { λ s. record {
+    ghost terms = { record {
       premise = ⊤;
-      backtracks = ⊤;
-      spares_memory = ⊤;
-      consumes = ⊤;
-      grammar = SignedDecimal O.number O.fits I.seen_as I.Token.code;
+      stable = ⊤;
+      alike = OneNumber O.number;
+      claim = λ s. record {
+        premise = ⊤;
+        backtracks = ⊤;
+        spares_memory = ⊤;
+        consumes = ⊤;
+        grammar = SignedDecimal O.number O.fits I.seen_as I.Token.code;
+      };
     } };
 
-    ghost lawful = { λ _. number_law (signed_numbers O.number O.fits) I.seen_as I.Token.code
-        I.reading I.one_code (signed_apart O.number O.fits) };
-
-    ghost claimed = { λ s. record {
-      projects = λ at is. dec_int_projects O.number O.fits I.seen_as I.Token.code I.reading
-          I.one_code at s;
-      takes = λ is some. signed_takes O.number O.fits I.seen_as I.Token.code;
+    ghost lawful = { record {
+      law = λ _. number_law (signed_numbers O.number O.fits) I.seen_as I.Token.code
+          I.reading I.one_code (signed_apart O.number O.fits);
+      claimed = λ s. record {
+        projects = λ at is. dec_int_projects O.number O.fits I.seen_as I.Token.code I.reading
+            I.one_code at s;
+        takes = λ is some. signed_takes O.number O.fits I.seen_as I.Token.code;
+      };
     } };
 
     #[inline(always)]

@@ -32,23 +32,27 @@ where
 
     ghost does = { DecUintDoes O.number O.bound I.seen_as I.Token.code I.reading };
 
-    ghost terms = { record { premise = ⊤; stable = ⊤; alike = OneNumber O.number } };
-
-    ghost claim = { λ s. record {
+    ghost terms = { record {
       premise = ⊤;
-      backtracks = ⊤;
-      spares_memory = ⊤;
-      consumes = ⊤;
-      grammar = Decimal O.number O.bound I.seen_as I.Token.code;
+      stable = ⊤;
+      alike = OneNumber O.number;
+      claim = λ s. record {
+        premise = ⊤;
+        backtracks = ⊤;
+        spares_memory = ⊤;
+        consumes = ⊤;
+        grammar = Decimal O.number O.bound I.seen_as I.Token.code;
+      };
     } };
 
-    ghost lawful = { λ _. number_law (unsigned_numbers O.number O.bound) I.seen_as I.Token.code
-        I.reading I.one_code (unsigned_apart O.number O.bound) };
-
-    ghost claimed = { λ s. record {
-      projects = λ at is. dec_uint_projects O.number O.bound I.seen_as I.Token.code I.reading
-          I.one_code at s;
-      takes = λ is some. decimal_takes O.number O.bound I.seen_as I.Token.code;
+    ghost lawful = { record {
+      law = λ _. number_law (unsigned_numbers O.number O.bound) I.seen_as I.Token.code
+          I.reading I.one_code (unsigned_apart O.number O.bound);
+      claimed = λ s. record {
+        projects = λ at is. dec_uint_projects O.number O.bound I.seen_as I.Token.code I.reading
+            I.one_code at s;
+        takes = λ is some. decimal_takes O.number O.bound I.seen_as I.Token.code;
+      };
     } };
 
     #[inline(always)]

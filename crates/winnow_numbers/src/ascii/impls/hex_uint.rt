@@ -190,23 +190,27 @@ where
 
     ghost does = { HexUintDoes O.number O.nibbles I.seen_as I.Token.code I.reading };
 
-    ghost terms = { record { premise = ⊤; stable = ⊤; alike = OneNumber O.number } };
-
-    ghost claim = { λ s. record {
+    ghost terms = { record {
       premise = ⊤;
-      backtracks = ⊤;
-      spares_memory = ⊤;
-      consumes = ⊤;
-      grammar = Hexadecimal O.number O.nibbles I.seen_as I.Token.code;
+      stable = ⊤;
+      alike = OneNumber O.number;
+      claim = λ s. record {
+        premise = ⊤;
+        backtracks = ⊤;
+        spares_memory = ⊤;
+        consumes = ⊤;
+        grammar = Hexadecimal O.number O.nibbles I.seen_as I.Token.code;
+      };
     } };
 
-    ghost lawful = { λ _. hex_uint_law O.number O.nibbles I.seen_as I.Token.code I.reading
-        I.one_code };
-
-    ghost claimed = { λ s. record {
-      projects = λ at is. hex_uint_projects O.number O.nibbles I.seen_as I.Token.code I.reading
-          I.one_code at s;
-      takes = λ is some. hexadecimal_takes O.number O.nibbles I.seen_as I.Token.code;
+    ghost lawful = { record {
+      law = λ _. hex_uint_law O.number O.nibbles I.seen_as I.Token.code I.reading
+          I.one_code;
+      claimed = λ s. record {
+        projects = λ at is. hex_uint_projects O.number O.nibbles I.seen_as I.Token.code I.reading
+            I.one_code at s;
+        takes = λ is some. hexadecimal_takes O.number O.nibbles I.seen_as I.Token.code;
+      };
     } };
 
     #[inline(always)]

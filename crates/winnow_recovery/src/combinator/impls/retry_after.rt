@@ -7,7 +7,7 @@ ghost use Rattle.streams.specs.Input.{IsEndOf};
 ghost use Rattle.winnow_recovery.specs.Recovery.{recovery_of};
 ghost use Rattle.winnow_recovery.specs.RetryAfter.{RetryRuns, retry_after_parser};
 ghost use Rattle.winnow_recovery.specs.RetryAfter.{retry_after_recover};
-ghost use Rattle.parser_definitions.specs.Claim.{no_claim, nothing_claimed};
+ghost use Rattle.parser_definitions.specs.Terms.{no_claim, nothing_claimed};
 ghost use Rattle.std.proofs.Common.{refl};
 ghost use Rattle.parser_definitions.specs.Does.{Ran, wider_law};
 ghost use Rattle.parser_definitions.specs.Recover.{NeverAsks, Recovery};
@@ -85,14 +85,14 @@ impl<
       premise = P.terms.premise × R.terms.premise;
       stable = P.terms.stable × (R.terms.stable × NeverAsks R.does);
       alike = P.terms.alike;
+      claim = λ _. no_claim;
     } };
 
-    ghost claim = { λ _. no_claim };
-
-    ghost lawful = { λ is. retry_after_law (P.lawful is.0)
-        (wider_law (λ o p like. refl) (R.lawful is.1)) };
-
-    ghost claimed = { λ _. nothing_claimed };
+    ghost lawful = { record {
+      law = λ is. retry_after_law (P.lawful.law is.0)
+          (wider_law (λ o p like. refl) (R.lawful.law is.1));
+      claimed = λ _. nothing_claimed;
+    } };
 
     #[inline]
     fn parse_next(&mut self, input: &mut I) -> Result<O, E> {

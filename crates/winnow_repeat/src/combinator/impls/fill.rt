@@ -3,7 +3,7 @@ ghost use Rattle.parser_definitions.specs.Does.{Ran};
 ghost use Rattle.stream_errors.specs.Form.{answer_by};
 ghost use Rattle.streams.specs.Input.{IsEndOf};
 ghost use Rattle.winnow_repeat.specs.Fill.{FillsElements, fill_buffer};
-ghost use Rattle.parser_definitions.specs.Claim.{no_claim, nothing_claimed};
+ghost use Rattle.parser_definitions.specs.Terms.{no_claim, nothing_claimed};
 ghost use Rattle.std.specs.Prelude.{◌≡◌};
 ghost use Rattle.parser_definitions.specs.Fill.{Buffer, FillDoes, fill_law};
 
@@ -40,13 +40,13 @@ impl<'b, P: Parser<I, O, E>, I: Stream, O: Drop, E: ParserError<I>> Parser<I, ()
       premise = P.terms.premise × ((o p : O) → P.terms.alike o p → o ≡ p);
       stable = P.terms.stable;
       alike = λ o p. o ≡ p;
+      claim = λ _. no_claim;
     } };
 
-    ghost claim = { λ _. no_claim };
-
-    ghost lawful = { λ is. fill_law (P.lawful is.0) is.1 };
-
-    ghost claimed = { λ _. nothing_claimed };
+    ghost lawful = { record {
+      law = λ is. fill_law (P.lawful.law is.0) is.1;
+      claimed = λ _. nothing_claimed;
+    } };
 
     fn parse_next(&mut self, input: &mut I) -> Result<(), E> {
         fill_each(&mut self.parser, self.buffer, input)

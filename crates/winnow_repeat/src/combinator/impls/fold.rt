@@ -114,26 +114,28 @@ impl<
           H.step;
       stable = P.terms.stable;
       alike = Built (folding G.step H.step) P.terms.alike;
+      claim = λ s. record {
+        premise = (P.terms.claim s.0).premise × (P.terms.claim s.0).backtracks
+            × (P.terms.claim s.0).consumes
+            × IsWithin (bounds_of s.1.0).greatest (bounds_of s.1.0).least
+            × StaysMaking G.step s.1.1.0 × StaysFolding H.step s.1.1.1;
+        backtracks = ⊤;
+        spares_memory = (P.terms.claim s.0).spares_memory;
+        consumes = 0 < (bounds_of s.1.0).least;
+        grammar = Folded G.step s.1.1.0 H.step s.1.1.1 s.1.0 (P.terms.claim s.0).grammar;
+      };
     } };
 
-    ghost claim = { λ s. record {
-      premise = (P.claim s.0).premise × (P.claim s.0).backtracks × (P.claim s.0).consumes
-          × IsWithin (bounds_of s.1.0).greatest (bounds_of s.1.0).least
-          × StaysMaking G.step s.1.1.0 × StaysFolding H.step s.1.1.1;
-      backtracks = ⊤;
-      spares_memory = (P.claim s.0).spares_memory;
-      consumes = 0 < (bounds_of s.1.0).least;
-      grammar = Folded G.step s.1.1.0 H.step s.1.1.1 s.1.0 (P.claim s.0).grammar;
-    } };
-
-    ghost lawful = { λ is. fold_law G.step H.step is.1 is.2 (P.lawful is.0) };
-
-    ghost claimed = { λ s. record {
-      projects = λ at is. fold_projects G.step H.step ((P.claimed s.0).projects at is.0) is.1
-          ((P.claimed s.0).takes is.0 is.2) is.3 is.4 is.5;
-      takes = λ is some. repeated_take (FoldOf G.step s.1.1.0 H.step s.1.1.1) s.1.0
-          ((P.claimed s.0).projects (record { form = modal; possible = true }) is.0).unique
-          ((P.claimed s.0).takes is.0 is.2) some;
+    ghost lawful = { record {
+      law = λ is. fold_law G.step H.step is.1 is.2 (P.lawful.law is.0);
+      claimed = λ s. record {
+        projects = λ at is. fold_projects G.step H.step ((P.lawful.claimed s.0).projects at is.0)
+            is.1
+            ((P.lawful.claimed s.0).takes is.0 is.2) is.3 is.4 is.5;
+        takes = λ is some. repeated_take (FoldOf G.step s.1.1.0 H.step s.1.1.1) s.1.0
+            ((P.lawful.claimed s.0).projects (record { form = modal; possible = true }) is.0).unique
+            ((P.lawful.claimed s.0).takes is.0 is.2) some;
+      };
     } };
 
     #[inline(always)]

@@ -142,26 +142,27 @@ impl<
       premise = P.terms.premise;
       stable = P.terms.stable;
       alike = Built (gathering {Q = P.State × Range} C.accumulator) P.terms.alike;
+      claim = λ s. record {
+        premise = (P.terms.claim s.0).premise × (P.terms.claim s.0).backtracks
+            × (P.terms.claim s.0).consumes
+            × IsWithin (bounds_of s.1).greatest (bounds_of s.1).least;
+        backtracks = ⊤;
+        spares_memory = (P.terms.claim s.0).spares_memory × C.spares_memory;
+        consumes = 0 < (bounds_of s.1).least;
+        grammar = Repeated C.holds s.1 (P.terms.claim s.0).grammar;
+      };
     } };
 
-    ghost claim = { λ s. record {
-      premise = (P.claim s.0).premise × (P.claim s.0).backtracks × (P.claim s.0).consumes
-          × IsWithin (bounds_of s.1).greatest (bounds_of s.1).least;
-      backtracks = ⊤;
-      spares_memory = (P.claim s.0).spares_memory × C.spares_memory;
-      consumes = 0 < (bounds_of s.1).least;
-      grammar = Repeated C.holds s.1 (P.claim s.0).grammar;
-    } };
-
-    ghost lawful = { λ is. repeat_law C.accumulator (P.lawful is) };
-
-    ghost claimed = { λ s. record {
-      projects = λ at is. repeat_projects C.accumulator C.gathers (λ m. C.never_wants m.1)
-          (projects_as (λ b. b) (λ m. m.0) ((P.claimed s.0).projects at is.0)) is.1
-          ((P.claimed s.0).takes is.0 is.2) is.3;
-      takes = λ is some. repeated_take C.holds s.1
-          ((P.claimed s.0).projects (record { form = modal; possible = true }) is.0).unique
-          ((P.claimed s.0).takes is.0 is.2) some;
+    ghost lawful = { record {
+      law = λ is. repeat_law C.accumulator (P.lawful.law is);
+      claimed = λ s. record {
+        projects = λ at is. repeat_projects C.accumulator C.gathers (λ m. C.never_wants m.1)
+            (projects_as (λ b. b) (λ m. m.0) ((P.lawful.claimed s.0).projects at is.0)) is.1
+            ((P.lawful.claimed s.0).takes is.0 is.2) is.3;
+        takes = λ is some. repeated_take C.holds s.1
+            ((P.lawful.claimed s.0).projects (record { form = modal; possible = true }) is.0).unique
+            ((P.lawful.claimed s.0).takes is.0 is.2) some;
+      };
     } };
 
     fn parse_next(&mut self, input: &mut I) -> Result<C, E> {

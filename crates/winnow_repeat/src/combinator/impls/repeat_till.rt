@@ -61,30 +61,31 @@ impl<
       alike = AlikePairs
           (Built (gathering {Q = P.State × G.State × Range} C.accumulator) P.terms.alike)
           G.terms.alike;
+      claim = λ s. record {
+        premise = (P.terms.claim s.0).premise × (P.terms.claim s.0).backtracks
+            × (P.terms.claim s.0).consumes
+            × (G.terms.claim s.1).premise × (G.terms.claim s.1).backtracks
+            × IsWithin (bounds_of s.2).greatest (bounds_of s.2).least;
+        backtracks = ⊤;
+        spares_memory =
+            (P.terms.claim s.0).spares_memory × (G.terms.claim s.1).spares_memory × C.spares_memory;
+        consumes = (G.terms.claim s.1).consumes;
+        grammar = Till C.holds s.2 (P.terms.claim s.0).grammar (G.terms.claim s.1).grammar;
+      };
     } };
 
-    ghost claim = { λ s. record {
-      premise = (P.claim s.0).premise × (P.claim s.0).backtracks × (P.claim s.0).consumes
-          × (G.claim s.1).premise × (G.claim s.1).backtracks
-          × IsWithin (bounds_of s.2).greatest (bounds_of s.2).least;
-      backtracks = ⊤;
-      spares_memory =
-          (P.claim s.0).spares_memory × (G.claim s.1).spares_memory × C.spares_memory;
-      consumes = (G.claim s.1).consumes;
-      grammar = Till C.holds s.2 (P.claim s.0).grammar (G.claim s.1).grammar;
-    } };
-
-    ghost lawful = { λ is. repeat_till_law C.accumulator (P.lawful is.0) (G.lawful is.1) };
-
-    ghost claimed = { λ s. record {
-      projects = λ at is. repeat_till_projects C.accumulator C.gathers
-          (λ m. C.never_wants m.2)
-          (projects_as (λ b. b) (λ m. m.0) ((P.claimed s.0).projects at is.0)) is.1
-          ((P.claimed s.0).takes is.0 is.2)
-          (projects_as (λ b. b) (λ m. m.1) ((G.claimed s.1).projects at is.3)) is.4 is.5;
-      takes = λ is some. till_takes (P.claim s.0).grammar (G.claim s.1).grammar
-          ((P.claimed s.0).projects (record { form = modal; possible = true }) is.0).unique
-          C.holds s.2 ((G.claimed s.1).takes is.3 some);
+    ghost lawful = { record {
+      law = λ is. repeat_till_law C.accumulator (P.lawful.law is.0) (G.lawful.law is.1);
+      claimed = λ s. record {
+        projects = λ at is. repeat_till_projects C.accumulator C.gathers
+            (λ m. C.never_wants m.2)
+            (projects_as (λ b. b) (λ m. m.0) ((P.lawful.claimed s.0).projects at is.0)) is.1
+            ((P.lawful.claimed s.0).takes is.0 is.2)
+            (projects_as (λ b. b) (λ m. m.1) ((G.lawful.claimed s.1).projects at is.3)) is.4 is.5;
+        takes = λ is some. till_takes (P.terms.claim s.0).grammar (G.terms.claim s.1).grammar
+            ((P.lawful.claimed s.0).projects (record { form = modal; possible = true }) is.0).unique
+            C.holds s.2 ((G.lawful.claimed s.1).takes is.3 some);
+      };
     } };
 
     fn parse_next(&mut self, input: &mut I) -> Result<(C, D), E> {

@@ -4,7 +4,7 @@ ghost use Rattle.stream_errors.specs.Given.{Keeping, KindGiven};
 ghost use Rattle.stream_sets.specs.declared.range.Range.{Range};
 ghost use Rattle.streams.specs.Kind.{backtrack};
 ghost use Rattle.winnow_repeat.specs.TryFold.{TryFoldTakes, try_fold_closure};
-ghost use Rattle.parser_definitions.specs.Claim.{no_claim, nothing_claimed};
+ghost use Rattle.parser_definitions.specs.Terms.{no_claim, nothing_claimed};
 ghost use Rattle.parser_definitions.specs.Closures.{trying};
 ghost use Rattle.parser_definitions.specs.Fold.{BothOrFail, FoldsAlike, MakesOne, TryFoldDoes};
 ghost use Rattle.parser_definitions.specs.Fold.{try_fold_law};
@@ -127,13 +127,13 @@ impl<
           P.terms.alike H.step;
       stable = P.terms.stable;
       alike = Built (trying G.step H.step) P.terms.alike;
+      claim = λ _. no_claim;
     } };
 
-    ghost claim = { λ _. no_claim };
-
-    ghost lawful = { λ is. try_fold_law G.step H.step is.1 is.2 (P.lawful is.0) };
-
-    ghost claimed = { λ _. nothing_claimed };
+    ghost lawful = { record {
+      law = λ is. try_fold_law G.step H.step is.1 is.2 (P.lawful.law is.0);
+      claimed = λ _. nothing_claimed;
+    } };
 
     fn parse_next(&mut self, input: &mut I) -> Result<R, E> {
         fold_range(

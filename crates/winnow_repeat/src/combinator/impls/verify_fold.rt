@@ -4,7 +4,7 @@ ghost use Rattle.stream_sets.specs.declared.range.Range.{Range};
 ghost use Rattle.streams.specs.Kind.{backtrack};
 ghost use Rattle.winnow_repeat.specs.VerifyFold.{VerifyFoldTakes};
 ghost use Rattle.winnow_repeat.specs.VerifyFold.{verify_fold_closure};
-ghost use Rattle.parser_definitions.specs.Claim.{no_claim, nothing_claimed};
+ghost use Rattle.parser_definitions.specs.Terms.{no_claim, nothing_claimed};
 ghost use Rattle.parser_definitions.specs.Closures.{verifying};
 ghost use Rattle.parser_definitions.specs.Fold.{BothOrNone, FoldsAlike, MakesOne, VerifyFoldDoes};
 ghost use Rattle.parser_definitions.specs.Fold.{verify_fold_law};
@@ -114,13 +114,13 @@ impl<
           P.terms.alike H.step;
       stable = P.terms.stable;
       alike = Built (verifying G.step H.step) P.terms.alike;
+      claim = λ _. no_claim;
     } };
 
-    ghost claim = { λ _. no_claim };
-
-    ghost lawful = { λ is. verify_fold_law G.step H.step is.1 is.2 (P.lawful is.0) };
-
-    ghost claimed = { λ _. nothing_claimed };
+    ghost lawful = { record {
+      law = λ is. verify_fold_law G.step H.step is.1 is.2 (P.lawful.law is.0);
+      claimed = λ _. nothing_claimed;
+    } };
 
     fn parse_next(&mut self, input: &mut I) -> Result<R, E> {
         fold_range(

@@ -59,29 +59,32 @@ impl<
       premise = P.terms.premise × S.terms.premise;
       stable = P.terms.stable × S.terms.stable;
       alike = Built (gathering {Q = P.State × S.State × Range} C.accumulator) P.terms.alike;
+      claim = λ s. record {
+        premise = (P.terms.claim s.0).premise × (P.terms.claim s.0).backtracks
+            × (S.terms.claim s.1).premise
+            × (S.terms.claim s.1).backtracks × (S.terms.claim s.1).consumes
+            × IsWithin (bounds_of s.2).greatest (bounds_of s.2).least;
+        backtracks = ⊤;
+        spares_memory =
+            (P.terms.claim s.0).spares_memory × (S.terms.claim s.1).spares_memory × C.spares_memory;
+        consumes = (P.terms.claim s.0).consumes × (0 < (bounds_of s.2).least);
+        grammar = SeparatedBy C.holds s.2 (P.terms.claim s.0).grammar (S.terms.claim s.1).grammar;
+      };
     } };
 
-    ghost claim = { λ s. record {
-      premise = (P.claim s.0).premise × (P.claim s.0).backtracks × (S.claim s.1).premise
-          × (S.claim s.1).backtracks × (S.claim s.1).consumes
-          × IsWithin (bounds_of s.2).greatest (bounds_of s.2).least;
-      backtracks = ⊤;
-      spares_memory =
-          (P.claim s.0).spares_memory × (S.claim s.1).spares_memory × C.spares_memory;
-      consumes = (P.claim s.0).consumes × (0 < (bounds_of s.2).least);
-      grammar = SeparatedBy C.holds s.2 (P.claim s.0).grammar (S.claim s.1).grammar;
-    } };
-
-    ghost lawful = { λ is. separated_law C.accumulator (P.lawful is.0) (S.lawful is.1) };
-
-    ghost claimed = { λ s. record {
-      projects = λ at is. separated_projects C.accumulator s C.gathers (λ m. C.never_wants m.2)
-          ((P.claimed s.0).projects at is.0) is.1 (λ m. m.0) ((S.claimed s.1).projects at is.2) is.3
-          (λ m. m.1) ((S.claimed s.1).takes is.2 is.4) is.5;
-      takes = λ is some.
-          let at : Complete = record { form = modal; possible = true } in
-          separated_takes C.holds s.2 ((P.claimed s.0).projects at is.0).unique
-          ((S.claimed s.1).projects at is.2).unique ((P.claimed s.0).takes is.0 some.0) some.1;
+    ghost lawful = { record {
+      law = λ is. separated_law C.accumulator (P.lawful.law is.0) (S.lawful.law is.1);
+      claimed = λ s. record {
+        projects = λ at is. separated_projects C.accumulator s C.gathers (λ m. C.never_wants m.2)
+            ((P.lawful.claimed s.0).projects at is.0) is.1 (λ m. m.0)
+            ((S.lawful.claimed s.1).projects at is.2) is.3
+            (λ m. m.1) ((S.lawful.claimed s.1).takes is.2 is.4) is.5;
+        takes = λ is some.
+            let at : Complete = record { form = modal; possible = true } in
+            separated_takes C.holds s.2 ((P.lawful.claimed s.0).projects at is.0).unique
+            ((S.lawful.claimed s.1).projects at is.2).unique
+            ((P.lawful.claimed s.0).takes is.0 some.0) some.1;
+      };
     } };
 
     fn parse_next(&mut self, input: &mut I) -> Result<C, E> {

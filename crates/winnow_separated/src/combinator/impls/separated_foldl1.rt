@@ -6,7 +6,7 @@ ghost use Rattle.streams.specs.Input.{IsEndOf};
 ghost use Rattle.winnow_separated.specs.SeparatedFoldl1.{JoinedLinksRun};
 ghost use Rattle.winnow_separated.specs.SeparatedFoldl1.{foldl1_parser};
 ghost use Rattle.winnow_separated.specs.SeparatedFoldl1.{foldl1_separator};
-ghost use Rattle.parser_definitions.specs.Claim.{no_claim, nothing_claimed};
+ghost use Rattle.parser_definitions.specs.Terms.{no_claim, nothing_claimed};
 ghost use Rattle.parser_definitions.specs.SeparatedFold.{AlikeLeft, JoinsAlike};
 ghost use Rattle.parser_definitions.specs.SeparatedFold.{SeparatedFoldl1Does};
 ghost use Rattle.parser_definitions.specs.SeparatedFold.{separated_foldl1_law};
@@ -70,13 +70,13 @@ impl<
           P.terms.alike H.step;
       stable = P.terms.stable × S.terms.stable;
       alike = AlikeLeft H.step P.terms.alike S.terms.alike;
+      claim = λ _. no_claim;
     } };
 
-    ghost claim = { λ _. no_claim };
-
-    ghost lawful = { λ is. separated_foldl1_law H.step is.2 (P.lawful is.0) (S.lawful is.1) };
-
-    ghost claimed = { λ _. nothing_claimed };
+    ghost lawful = { record {
+      law = λ is. separated_foldl1_law H.step is.2 (P.lawful.law is.0) (S.lawful.law is.1);
+      claimed = λ _. nothing_claimed;
+    } };
 
     fn parse_next(&mut self, input: &mut I) -> Result<O, E> {
         let first = self.link.parser.parse_next(input)?;

@@ -3,7 +3,7 @@ ghost use Rattle.std.specs.Prelude.{◌≡◌};
 ghost use Rattle.winnow_separated.specs.SeparatedFoldr1.{FoldsRight};
 ghost use Rattle.winnow_separated.specs.SeparatedFoldr1.{foldr1_parser};
 ghost use Rattle.winnow_separated.specs.SeparatedFoldr1.{foldr1_separator};
-ghost use Rattle.parser_definitions.specs.Claim.{no_claim, nothing_claimed};
+ghost use Rattle.parser_definitions.specs.Terms.{no_claim, nothing_claimed};
 ghost use Rattle.parser_definitions.specs.SeparatedFold.{AlikeRight, JoinsAlike};
 ghost use Rattle.parser_definitions.specs.SeparatedFold.{SeparatedFoldr1Does};
 ghost use Rattle.parser_definitions.specs.SeparatedFold.{separated_foldr1_law};
@@ -77,13 +77,13 @@ impl<
           (AlikeRight H.step P.terms.alike S.terms.alike) H.step;
       stable = P.terms.stable × S.terms.stable;
       alike = AlikeRight H.step P.terms.alike S.terms.alike;
+      claim = λ _. no_claim;
     } };
 
-    ghost claim = { λ _. no_claim };
-
-    ghost lawful = { λ is. separated_foldr1_law A H.step is.2 (P.lawful is.0) (S.lawful is.1) };
-
-    ghost claimed = { λ _. nothing_claimed };
+    ghost lawful = { record {
+      law = λ is. separated_foldr1_law A H.step is.2 (P.lawful.law is.0) (S.lawful.law is.1);
+      claimed = λ _. nothing_claimed;
+    } };
 
     fn parse_next(&mut self, input: &mut I) -> Result<O, E> {
         let first = self.pair.1.parse_next(input)?;

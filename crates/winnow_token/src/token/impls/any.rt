@@ -27,21 +27,25 @@ impl<I: StreamIsPartial, E: ParserError<I>> Parser<I, I::Token, E> for Any {
 
     ghost does = { AnyDoes I.seen_as I.reading };
 
-    ghost terms = { record { premise = ⊤; stable = ⊤; alike = SeenSame I.seen_as } };
-
-    ghost claim = { λ s. record {
+    ghost terms = { record {
       premise = ⊤;
-      backtracks = ⊤;
-      spares_memory = ⊤;
-      consumes = ⊤;
-      grammar = Token I.seen_as;
+      stable = ⊤;
+      alike = SeenSame I.seen_as;
+      claim = λ s. record {
+        premise = ⊤;
+        backtracks = ⊤;
+        spares_memory = ⊤;
+        consumes = ⊤;
+        grammar = Token I.seen_as;
+      };
     } };
 
-    ghost lawful = { λ _. any_law I.seen_as I.reading };
-
-    ghost claimed = { λ s. record {
-      projects = λ at is. any_projects I.seen_as I.reading;
-      takes = λ is some. token_takes I.seen_as;
+    ghost lawful = { record {
+      law = λ _. any_law I.seen_as I.reading;
+      claimed = λ s. record {
+        projects = λ at is. any_projects I.seen_as I.reading;
+        takes = λ is some. token_takes I.seen_as;
+      };
     } };
 
     #[inline(always)]

@@ -1,8 +1,6 @@
 //! A literal.
-ghost use Rattle.std.specs.Prelude.{[], ⊤};
-ghost use Rattle.grammars.specs.Grammar.{Literally};
-ghost use Rattle.parser_definitions.specs.Literal.{LiteralDoes, literal_law};
-ghost use Rattle.parser_definitions.specs.Projects.Literals.{literal_claimed};
+ghost use Rattle.parser_definitions.specs.Literal.{LiteralDoes};
+ghost use Rattle.parser_definitions.specs.Projects.Literals.{literal_meets, literal_terms};
 ghost use Rattle.parser_definitions.specs.Spelled.{ShowSame};
 
 use std::marker::PhantomData;
@@ -32,21 +30,10 @@ impl<T: Copy, I: StreamIsPartial + Compare<T>, E: ParserError<I>> Parser<I, I::S
 
     ghost does = { LiteralDoes I.reading I.spells (λ _ slice. slice) };
 
-    ghost terms = { record { premise = ⊤; stable = ⊤; alike = ShowSame I.reading } };
+    ghost terms = { literal_terms I.reading I.spells (λ _ slice. slice) (ShowSame I.reading) };
 
-    ghost claim = { λ s. record {
-      premise = ⊤;
-      backtracks = ⊤;
-      spares_memory = ⊤;
-      consumes = I.spells s [] → ⊥;
-      grammar = Literally I.reading I.spells (λ _ slice. slice) s;
-    } };
-
-    ghost lawful = { λ _. literal_law I.reading I.spells (λ _ slice. slice) (ShowSame I.reading)
-        I.same_units (λ s slice other shown. shown) };
-
-    ghost claimed = { λ s. literal_claimed I.reading I.spells (λ _ slice. slice) s
-        (I.same_units s) };
+    ghost lawful = { literal_meets I.reading I.spells (λ _ slice. slice) (ShowSame I.reading)
+        I.same_units (λ s v w x. x) };
 
     #[inline(always)]
     fn parse_next(&mut self, input: &mut I) -> Result<I::Slice, E> {

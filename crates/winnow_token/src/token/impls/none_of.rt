@@ -46,21 +46,21 @@ where
           → SetIsFunction (AnswersSeen I.seen_as (Others S.tells x));
       stable = ⊤;
       alike = SeenSame I.seen_as;
+      claim = λ s. record {
+        premise = SetIsFunction (AnswersSeen I.seen_as (Others S.tells s));
+        backtracks = ⊤;
+        spares_memory = ⊤;
+        consumes = ⊤;
+        grammar = TokenOf I.seen_as (Others S.tells) s;
+      };
     } };
 
-    ghost claim = { λ s. record {
-      premise = SetIsFunction (AnswersSeen I.seen_as (Others S.tells s));
-      backtracks = ⊤;
-      spares_memory = ⊤;
-      consumes = ⊤;
-      grammar = TokenOf I.seen_as (Others S.tells) s;
-    } };
-
-    ghost lawful = { λ is. none_of_law I.seen_as I.reading S.tells is };
-
-    ghost claimed = { λ s. record {
-      projects = λ at is. one_of_projects I.seen_as I.reading (Others S.tells) is;
-      takes = λ is some. token_of_takes I.seen_as (Others S.tells) s;
+    ghost lawful = { record {
+      law = λ is. none_of_law I.seen_as I.reading S.tells is;
+      claimed = λ s. record {
+        projects = λ at is. one_of_projects I.seen_as I.reading (Others S.tells) is;
+        takes = λ is some. token_of_takes I.seen_as (Others S.tells) s;
+      };
     } };
 
     #[inline(always)]

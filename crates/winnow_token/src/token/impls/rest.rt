@@ -26,21 +26,25 @@ impl<I: Stream, E: ParserError<I>> Parser<I, I::Slice, E> for Rest {
 
     ghost does = { RestDoes I.reading };
 
-    ghost terms = { record { premise = ⊤; stable = ⊥; alike = ShowSame I.reading } };
-
-    ghost claim = { λ s. record {
+    ghost terms = { record {
       premise = ⊤;
-      backtracks = ⊤;
-      spares_memory = ⊤;
-      consumes = ⊥;
-      grammar = AllTokens I.reading;
+      stable = ⊥;
+      alike = ShowSame I.reading;
+      claim = λ s. record {
+        premise = ⊤;
+        backtracks = ⊤;
+        spares_memory = ⊤;
+        consumes = ⊥;
+        grammar = AllTokens I.reading;
+      };
     } };
 
-    ghost lawful = { λ _. rest_law I.reading };
-
-    ghost claimed = { λ s. record {
-      projects = λ at is. rest_projects I.reading;
-      takes = λ is never. absurd never;
+    ghost lawful = { record {
+      law = λ _. rest_law I.reading;
+      claimed = λ s. record {
+        projects = λ at is. rest_projects I.reading;
+        takes = λ is never. absurd never;
+      };
     } };
 
     #[inline(always)]

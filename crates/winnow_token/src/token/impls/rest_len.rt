@@ -25,21 +25,25 @@ impl<I: Stream, E: ParserError<I>> Parser<I, usize, E> for RestLen {
 
     ghost does = { RestLenDoes I.reading };
 
-    ghost terms = { record { premise = ⊤; stable = ⊥; alike = λ m n. m ≡ n } };
-
-    ghost claim = { λ s. record {
+    ghost terms = { record {
       premise = ⊤;
-      backtracks = ⊤;
-      spares_memory = ⊤;
-      consumes = ⊥;
-      grammar = UnitsLeft I.reading;
+      stable = ⊥;
+      alike = λ m n. m ≡ n;
+      claim = λ s. record {
+        premise = ⊤;
+        backtracks = ⊤;
+        spares_memory = ⊤;
+        consumes = ⊥;
+        grammar = UnitsLeft I.reading;
+      };
     } };
 
-    ghost lawful = { λ _. rest_len_law I.reading };
-
-    ghost claimed = { λ s. record {
-      projects = λ at is. rest_len_projects I.reading;
-      takes = λ is never. absurd never;
+    ghost lawful = { record {
+      law = λ _. rest_len_law I.reading;
+      claimed = λ s. record {
+        projects = λ at is. rest_len_projects I.reading;
+        takes = λ is never. absurd never;
+      };
     } };
 
     #[inline(always)]

@@ -31,21 +31,25 @@ impl<I: StreamIsPartial, E: ParserError<I>> Parser<I, I::Slice, E> for Take<I, E
 
     ghost does = { TakeDoes I.reading I.counts_missing (λ (n : ℕ). n) };
 
-    ghost terms = { record { premise = ⊤; stable = ⊤; alike = ShowSame I.reading } };
-
-    ghost claim = { λ s. record {
+    ghost terms = { record {
       premise = ⊤;
-      backtracks = ⊤;
-      spares_memory = ⊤;
-      consumes = 0 < s;
-      grammar = Counted I.reading s;
+      stable = ⊤;
+      alike = ShowSame I.reading;
+      claim = λ s. record {
+        premise = ⊤;
+        backtracks = ⊤;
+        spares_memory = ⊤;
+        consumes = 0 < s;
+        grammar = Counted I.reading s;
+      };
     } };
 
-    ghost lawful = { λ _. take_law I.reading I.counts_missing (λ n. n) };
-
-    ghost claimed = { λ s. record {
-      projects = λ at is. take_projects I.reading I.counts_missing (λ n. n);
-      takes = λ is some. counted_takes I.reading s some;
+    ghost lawful = { record {
+      law = λ _. take_law I.reading I.counts_missing (λ n. n);
+      claimed = λ s. record {
+        projects = λ at is. take_projects I.reading I.counts_missing (λ n. n);
+        takes = λ is some. counted_takes I.reading s some;
+      };
     } };
 
     #[inline(always)]

@@ -45,25 +45,25 @@ impl<S: ContainsToken<I::Token>, I: StreamIsPartial, E: ParserError<I>> Parser<I
           → SetIsFunction (AnswersSeen I.seen_as (Others S.tells x));
       stable = ⊤;
       alike = ShowSame I.reading;
+      claim = λ s. record {
+        premise = SetIsFunction (AnswersSeen I.seen_as (Others S.tells s.1))
+            × IsWithin (bounds_of s.0).greatest (bounds_of s.0).least;
+        backtracks = ⊤;
+        spares_memory = ⊤;
+        consumes = 0 < (bounds_of s.0).least;
+        grammar = Longest I.reading I.seen_as (Others S.tells) s.1 (bounds_of s.0);
+      };
     } };
 
-    ghost claim = { λ s. record {
-      premise = SetIsFunction (AnswersSeen I.seen_as (Others S.tells s.1))
-          × IsWithin (bounds_of s.0).greatest (bounds_of s.0).least;
-      backtracks = ⊤;
-      spares_memory = ⊤;
-      consumes = 0 < (bounds_of s.0).least;
-      grammar = Longest I.reading I.seen_as (Others S.tells) s.1 (bounds_of s.0);
-    } };
-
-    ghost lawful = { λ is. take_till_law I.seen_as I.reading (λ x. S.tells x.1)
-        (λ x. bounds_of x.0) (λ x. is x.1) };
-
-    ghost claimed = { λ s. record {
-      projects = λ at is. take_while_projects I.reading I.seen_as (Others S.tells) (λ x. x.1)
-          (λ x. bounds_of x.0) is.0 is.1;
-      takes = λ is some. longest_takes I.reading I.seen_as (Others S.tells) s.1
-          (bounds_of s.0) some;
+    ghost lawful = { record {
+      law = λ is. take_till_law I.seen_as I.reading (λ x. S.tells x.1)
+          (λ x. bounds_of x.0) (λ x. is x.1);
+      claimed = λ s. record {
+        projects = λ at is. take_while_projects I.reading I.seen_as (Others S.tells) (λ x. x.1)
+            (λ x. bounds_of x.0) is.0 is.1;
+        takes = λ is some. longest_takes I.reading I.seen_as (Others S.tells) s.1
+            (bounds_of s.0) some;
+      };
     } };
 
     #[inline(always)]

@@ -37,23 +37,27 @@ impl<T: Copy, I: StreamIsPartial + FindSlice<T>, E: ParserError<I>> Parser<I, I:
 
     ghost does = { TakeUntilDoes I.reading (λ x. I.sought x.1) (λ x. bounds_of x.0) };
 
-    ghost terms = { record { premise = ⊤; stable = ⊤; alike = ShowSame I.reading } };
-
-    ghost claim = { λ s. record {
-      premise = IsWithin (bounds_of s.0).greatest (bounds_of s.0).least;
-      backtracks = ⊤;
-      spares_memory = ⊤;
-      consumes = 0 < (bounds_of s.0).least;
-      grammar = Before I.reading (I.sought s.1) (bounds_of s.0);
+    ghost terms = { record {
+      premise = ⊤;
+      stable = ⊤;
+      alike = ShowSame I.reading;
+      claim = λ s. record {
+        premise = IsWithin (bounds_of s.0).greatest (bounds_of s.0).least;
+        backtracks = ⊤;
+        spares_memory = ⊤;
+        consumes = 0 < (bounds_of s.0).least;
+        grammar = Before I.reading (I.sought s.1) (bounds_of s.0);
+      };
     } };
 
-    ghost lawful = { λ _. take_until_law I.reading (λ x. I.sought x.1) (λ x. bounds_of x.0)
-        (λ x. I.stays_first x.1) };
-
-    ghost claimed = { λ s. record {
-      projects = λ at is. take_until_projects I.reading (λ x. I.sought x.1) (λ x. bounds_of x.0)
-          is;
-      takes = λ is some. before_takes I.reading (I.sought s.1) (bounds_of s.0) some;
+    ghost lawful = { record {
+      law = λ _. take_until_law I.reading (λ x. I.sought x.1) (λ x. bounds_of x.0)
+          (λ x. I.stays_first x.1);
+      claimed = λ s. record {
+        projects = λ at is. take_until_projects I.reading (λ x. I.sought x.1) (λ x. bounds_of x.0)
+            is;
+        takes = λ is some. before_takes I.reading (I.sought s.1) (bounds_of s.0) some;
+      };
     } };
 
     #[inline(always)]

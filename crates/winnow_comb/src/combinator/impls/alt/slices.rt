@@ -23,19 +23,23 @@ impl<const N: usize, I: Stream, O, E: ParserError<I>, P: Parser<I, O, E>> Alt<I,
 
     ghost does = { ChoiceDoes P.does };
 
-    ghost terms = { P.terms };
-
-    ghost claim = { λ s. record {
-      premise = All (λ x. (P.claim x).premise × (P.claim x).backtracks) s;
-      backtracks = s ≡ [] → ⊥;
-      spares_memory = All (λ x. (P.claim x).spares_memory) s;
-      consumes = All (λ x. (P.claim x).consumes) s;
-      grammar = FirstOf (λ x. (P.claim x).grammar) s;
+    ghost terms = { record {
+      premise = P.terms.premise;
+      stable = P.terms.stable;
+      alike = P.terms.alike;
+      claim = λ s. record {
+        premise = All (λ x. (P.terms.claim x).premise × (P.terms.claim x).backtracks) s;
+        backtracks = s ≡ [] → ⊥;
+        spares_memory = All (λ x. (P.terms.claim x).spares_memory) s;
+        consumes = All (λ x. (P.terms.claim x).consumes) s;
+        grammar = FirstOf (λ x. (P.terms.claim x).grammar) s;
+      };
     } };
 
-    ghost lawful = { λ is. choice_law (P.lawful is) };
-
-    ghost claimed = { choice_claimed P.claim P.claimed };
+    ghost lawful = { record {
+      law = λ is. choice_law (P.lawful.law is);
+      claimed = choice_claimed P.terms.claim P.lawful.claimed;
+    } };
 
     #[inline(always)]
     fn choice(&mut self, input: &mut I) -> Result<O, E> {
@@ -52,21 +56,26 @@ impl<'a, I: Stream, O, E: ParserError<I>, P: Parser<I, O, E>> Alt<I, O, E> for &
 
     ghost does = { ByRefDoes (ChoiceDoes P.does) };
 
-    ghost terms = { P.terms };
-
-    ghost claim = { λ s. record {
-      premise = All (λ x. (P.claim x).premise × (P.claim x).backtracks) s.0;
-      backtracks = s.0 ≡ [] → ⊥;
-      spares_memory = All (λ x. (P.claim x).spares_memory) s.0;
-      consumes = All (λ x. (P.claim x).consumes) s.0;
-      grammar = FirstOf (λ x. (P.claim x).grammar) s.0;
+    ghost terms = { record {
+      premise = P.terms.premise;
+      stable = P.terms.stable;
+      alike = P.terms.alike;
+      claim = λ s. record {
+        premise = All (λ x. (P.terms.claim x).premise × (P.terms.claim x).backtracks) s.0;
+        backtracks = s.0 ≡ [] → ⊥;
+        spares_memory = All (λ x. (P.terms.claim x).spares_memory) s.0;
+        consumes = All (λ x. (P.terms.claim x).consumes) s.0;
+        grammar = FirstOf (λ x. (P.terms.claim x).grammar) s.0;
+      };
     } };
 
-    ghost lawful = { λ is. by_ref_law (choice_law (P.lawful is)) };
-
-    ghost claimed = { λ s. record {
-      projects = λ at is. by_ref_projects ((choice_claimed P.claim P.claimed s.0).projects at is);
-      takes = (choice_claimed P.claim P.claimed s.0).takes;
+    ghost lawful = { record {
+      law = λ is. by_ref_law (choice_law (P.lawful.law is));
+      claimed = λ s. record {
+        projects = λ at is. by_ref_projects
+            ((choice_claimed P.terms.claim P.lawful.claimed s.0).projects at is);
+        takes = (choice_claimed P.terms.claim P.lawful.claimed s.0).takes;
+      };
     } };
 
     #[inline(always)]

@@ -4,5 +4,5 @@ use Rattle.winnow_core.proofs.parser.Parser.read_outcome.Goals as goal
 pub returns-clause-tells : goal.returns-clause-tells
 returns-clause-tells g c =
     tells_of g.I.Stream.reading
-    (g.met.Self.Parser.lawful c.requires.premise) g.E.HasKind.form _ _ _ _ _
+    (g.met.Self.Parser.lawful.law c.requires.premise) g.E.HasKind.form _ _ _ _ _
     c.parse_next.ensures.ran

@@ -1,9 +1,11 @@
--- The specification of a parser by a grammar, from a state.
+-- What holds of a definition: its laws, and its specification by a grammar.
+use Rattle.std.specs.Prelude.{◌≡◌, ⊤}
 use Rattle.grammars.specs.Grammar.{Grammar, Never, TakesTokens}
+use Rattle.parser_definitions.specs.Does.{Lawful}
 use Rattle.parser_definitions.specs.Outcome.{Does}
 use Rattle.parser_definitions.specs.Projects.{Complete, Projects}
 
--- The specification of a parser from a state.
+-- The specification of a parser by a grammar, from a state.
 pub record Claim (T O : Type 0) : Type 1 where
   -- the precondition of the grammar
   pub premise : Type 0
@@ -21,6 +23,14 @@ pub record Claim (T O : Type 0) : Type 1 where
 abbrev pub CanRead : {T O : Type 0} → Type 0 → Claim T O → Type 0
 CanRead callable claim = callable × claim.premise × claim.backtracks
 
+-- When a definition is lawful, when it is stable, which of its outputs are equal, and its
+-- specification by a grammar.
+pub record Terms (S T O : Type 0) : Type 1 where
+  pub premise : Type 0
+  pub stable : Type 0
+  pub alike : O → O → Type 0
+  pub claim : S → Claim T O
+
 -- The definition keeps what is claimed of the state.
 pub record Claimed {S T O : Type 0} (claim : Claim T O) (s : S) (does : Does S T O) : Type 0 where
   -- on complete input every outcome agrees with the grammar
@@ -29,7 +39,18 @@ pub record Claimed {S T O : Type 0} (claim : Claim T O) (s : S) (does : Does S T
   -- what is read takes tokens
   pub takes : claim.premise → claim.consumes → TakesTokens claim.grammar
 
--- No specification: its preconditions are false.
+-- The definition meets its terms.
+pub record Meets {S T O : Type 0} (terms : Terms S T O) (does : Does S T O) : Type 0 where
+  pub law : terms.premise → Lawful terms.stable terms.alike does
+  pub claimed : (s : S) → Claimed (terms.claim s) s does
+
+-- ---- parsers without a definition, or without a grammar
+
+-- No definition: every outcome is allowed.
+abbrev pub AnyOutcome : {S T O : Type 0} → Does S T O
+AnyOutcome at s w x = ⊤
+
+-- No specification by a grammar: its preconditions are false.
 abbrev pub no_claim : {T O : Type 0} → Claim T O
 no_claim = record {
   premise = ⊥;
@@ -39,9 +60,23 @@ no_claim = record {
   grammar = Never;
 }
 
--- that is kept
 pub nothing_claimed : {S T O : Type 0} {s : S} {does : Does S T O} → Claimed no_claim s does
 nothing_claimed = record {
   projects = λ at never. absurd never;
   takes = λ never consumes. absurd never;
+}
+
+-- Nothing holds: the preconditions are false.
+abbrev pub no_terms : {S T O : Type 0} → Terms S T O
+no_terms = record {
+  premise = ⊥;
+  stable = ⊥;
+  alike = λ o p. o ≡ p;
+  claim = λ _. no_claim;
+}
+
+pub meets_no_terms : {S T O : Type 0} {does : Does S T O} → Meets no_terms does
+meets_no_terms = record {
+  law = λ never. absurd never;
+  claimed = λ _. nothing_claimed;
 }
