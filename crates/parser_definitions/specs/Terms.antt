@@ -1,4 +1,4 @@
--- What holds of a definition: its laws, and its specification by a grammar.
+-- Terms of a definition: its laws, and its specification by a grammar.
 use Rattle.std.specs.Prelude.{◌≡◌, ⊤}
 use Rattle.grammars.specs.Grammar.{Grammar, Never, TakesTokens}
 use Rattle.parser_definitions.specs.Does.{Lawful}
