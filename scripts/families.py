@@ -9,7 +9,7 @@ It generates:
 
 - in `stream_sets`, the sets that are tuples;
 - in `winnow_core`, the impls of sequences (tuples of one to six);
-- in `winnow_comb`, those of choices between one to six branches, with their laws;
+- in `winnow_comb`, those of choices between one to nine branches, with their laws;
 - in `winnow_ascii`, the parsers of character classes;
 - in `winnow_integers` and `winnow_binary`, the parsers of integers;
 - the claims and the definitions of all of these.

@@ -1,5 +1,8 @@
 """Choices between the members of a tuple, in the crate `winnow_comb`."""
-from family.common import MOST, conjunction, rust_tuple, upto, write
+from family.common import conjunction, rust_tuple, upto, write
+
+# As many branches as winnow's tuples have; those of `LONG` and more are in a file of their own.
+MOST, LONG = 9, 7
 
 
 def nested(of, n, pair):
@@ -59,12 +62,13 @@ def choice_impl(n):
     return "\n".join(lines)
 
 
-CHOICE_IMPLS = """//! Tuples as the branches of `alt`.
+CHOICE_IMPLS = """//! Tuples {which}as the branches of `alt`.
 //!
 //! {head}
 ghost use Rattle.parser_definitions.specs.Alt.{{AltDoes}};
 ghost use Rattle.parser_definitions.specs.Projects.Choices.{{alt_meets, alt_terms}};
 
+{mods}
 use crate::combinator::impls::alt::{{Alt, attempt}};
 use stream_errors::parser_error::ParserError;
 use streams::stream::Stream;
@@ -82,30 +86,20 @@ def choice_answer(n, answering):
     """Returns the proof of the clause `ran` where branch `answering` of n gives the result."""
     goal = "returns-clause-ran" if answering == n else "returns-in-Some-%s-clause-ran" % attempt("attempt", answering)[2:].removeprefix("attempt-")
 
-    def does(k):
-        return "g.P%d.Parser.does" % k
-
-    def rest(k):
-        term = does(n)
-        for x in range(n - 1, k - 1, -1):
-            term = "(AltDoes %s %s)" % (does(x), term)
-        return term
-
     term = "c.parse_next.ensures.ran"
     if answering < n:
         found = attempt("in-Some", answering) + ".ensures.ran"
-        term = "(alt_here %s %s _ _ _ _ _ %s.0 %s.1 refl)" % (does(answering), rest(answering + 1), found, found)
+        term = "(alt_here %s.0 %s.1 refl)" % (found, found)
     for k in range(answering - 1, 0, -1):
         at = "c.checkpoint-start.ensures" if k == 1 else "(sym (ap (λ x. x.left) %s.ensures.ran.2))" % attempt("in_default", k - 1)
-        term = "(alt_next %s %s _ _ _ _ _ _ _ %s %s.ensures.ran %s)" % (does(k), rest(k + 1), at, attempt("in_default", k), term)
+        term = "(alt_next %s %s.ensures.ran %s)" % (at, attempt("in_default", k), term)
     return "pub %s : goal.%s\n%s g c = %s" % (goal, goal, goal, term[1:-1])
 
 
 CHOICE_ANSWERS = """-- {head}
 use Rattle.std.proofs.Common.{{{common}}}
-use Rattle.parser_definitions.specs.Alt.{{AltDoes}}
 use Rattle.winnow_comb.proofs.AltLemmas.{{alt_here, alt_next}}
-use Rattle.winnow_comb.proofs.combinator.impls.alt.tuples.Tuple{n}Alt.choice.Goals as goal
+use Rattle.winnow_comb.proofs.combinator.impls.alt.tuples.{long}Tuple{n}Alt.choice.Goals as goal
 
 {answers}
 """
@@ -114,9 +108,12 @@ use Rattle.winnow_comb.proofs.combinator.impls.alt.tuples.Tuple{n}Alt.choice.Goa
 def write_choices():
     comb = "crates/winnow_comb/"
     impls = comb + "src/combinator/impls/alt/"
-    write(impls + "tuples.rt", CHOICE_IMPLS, family="\n\n".join(choice_impl(n) for n in upto(MOST)))
+    short, long = ("\n\n".join(choice_impl(n) for n in part) for part in (range(1, LONG), range(LONG, MOST + 1)))
+    write(impls + "tuples.rt", CHOICE_IMPLS, which="", mods="\nmod long;\n", family=short)
+    write(impls + "tuples/long.rt", CHOICE_IMPLS, which="of seven to nine ", mods="", family=long)
     # Proofs that the prover does not find: results after branches that backtracked.
     for n in range(3, MOST + 1):
         answers = "\n\n".join(choice_answer(n, k) for k in range(2, n + 1))
-        path = comb + "proofs/combinator/impls/alt/tuples/Tuple%dAlt/choice/Answers.antt" % n
-        write(path, CHOICE_ANSWERS, n=n, common="refl, sym, ap", answers=answers)
+        folder = "long/" if n >= LONG else ""
+        path = comb + "proofs/combinator/impls/alt/tuples/%sTuple%dAlt/choice/Answers.antt" % (folder, n)
+        write(path, CHOICE_ANSWERS, n=n, long=folder.replace("/", "."), common="refl, sym, ap", answers=answers)

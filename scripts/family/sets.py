@@ -1,5 +1,8 @@
 """Tuples of sets, in the crate `stream_sets`."""
-from family.common import MOST, conjunction, rust_tuple, upto, write
+from family.common import conjunction, rust_tuple, upto, write
+
+# As many sets as a tuple may have.
+MOST = 10
 
 
 def tells(k):

@@ -8,7 +8,7 @@ mod tuples;
 use crate::as_char::AsChar;
 use std::ops;
 
-/// A set of tokens: a byte or a character, a range of them, a list of them, a tuple of one to six
+/// A set of tokens: a byte or a character, a range of them, a list of them, a tuple of one to ten
 /// sets, or all tokens for which a closure holds.
 ///
 /// Tokens are compared as characters: a byte is the character of its number.

@@ -112,3 +112,148 @@ impl<
             || self.5.contains_token(token)
     }
 }
+
+impl<
+    T: Copy,
+    S1: ContainsToken<T>,
+    S2: ContainsToken<T>,
+    S3: ContainsToken<T>,
+    S4: ContainsToken<T>,
+    S5: ContainsToken<T>,
+    S6: ContainsToken<T>,
+    S7: ContainsToken<T>,
+> ContainsToken<T> for (S1, S2, S3, S4, S5, S6, S7) {
+    ghost can_test = { λ s. S1.can_test s.0 × S2.can_test s.1 × S3.can_test s.2
+        × S4.can_test s.3 × S5.can_test s.4 × S6.can_test s.5 × S7.can_test s.6 };
+
+    ghost tells = { λ s t b. InEither (S1.tells s.0)
+        (InEither (S2.tells s.1)
+        (InEither (S3.tells s.2)
+        (InEither (S4.tells s.3)
+        (InEither (S5.tells s.4) (InEither (S6.tells s.5) (S7.tells s.6)))))) t b };
+
+    #[inline(always)]
+    fn contains_token(&self, token: T) -> bool {
+        self.0.contains_token(token)
+            || self.1.contains_token(token)
+            || self.2.contains_token(token)
+            || self.3.contains_token(token)
+            || self.4.contains_token(token)
+            || self.5.contains_token(token)
+            || self.6.contains_token(token)
+    }
+}
+
+impl<
+    T: Copy,
+    S1: ContainsToken<T>,
+    S2: ContainsToken<T>,
+    S3: ContainsToken<T>,
+    S4: ContainsToken<T>,
+    S5: ContainsToken<T>,
+    S6: ContainsToken<T>,
+    S7: ContainsToken<T>,
+    S8: ContainsToken<T>,
+> ContainsToken<T> for (S1, S2, S3, S4, S5, S6, S7, S8) {
+    ghost can_test = { λ s. S1.can_test s.0 × S2.can_test s.1 × S3.can_test s.2
+        × S4.can_test s.3 × S5.can_test s.4 × S6.can_test s.5 × S7.can_test s.6
+        × S8.can_test s.7 };
+
+    ghost tells = { λ s t b. InEither (S1.tells s.0)
+        (InEither (S2.tells s.1)
+        (InEither (S3.tells s.2)
+        (InEither (S4.tells s.3)
+        (InEither (S5.tells s.4)
+        (InEither (S6.tells s.5) (InEither (S7.tells s.6) (S8.tells s.7))))))) t b };
+
+    #[inline(always)]
+    fn contains_token(&self, token: T) -> bool {
+        self.0.contains_token(token)
+            || self.1.contains_token(token)
+            || self.2.contains_token(token)
+            || self.3.contains_token(token)
+            || self.4.contains_token(token)
+            || self.5.contains_token(token)
+            || self.6.contains_token(token)
+            || self.7.contains_token(token)
+    }
+}
+
+impl<
+    T: Copy,
+    S1: ContainsToken<T>,
+    S2: ContainsToken<T>,
+    S3: ContainsToken<T>,
+    S4: ContainsToken<T>,
+    S5: ContainsToken<T>,
+    S6: ContainsToken<T>,
+    S7: ContainsToken<T>,
+    S8: ContainsToken<T>,
+    S9: ContainsToken<T>,
+> ContainsToken<T> for (S1, S2, S3, S4, S5, S6, S7, S8, S9) {
+    ghost can_test = { λ s. S1.can_test s.0 × S2.can_test s.1 × S3.can_test s.2
+        × S4.can_test s.3 × S5.can_test s.4 × S6.can_test s.5 × S7.can_test s.6
+        × S8.can_test s.7 × S9.can_test s.8 };
+
+    ghost tells = { λ s t b. InEither (S1.tells s.0)
+        (InEither (S2.tells s.1)
+        (InEither (S3.tells s.2)
+        (InEither (S4.tells s.3)
+        (InEither (S5.tells s.4)
+        (InEither (S6.tells s.5)
+        (InEither (S7.tells s.6) (InEither (S8.tells s.7) (S9.tells s.8)))))))) t b };
+
+    #[inline(always)]
+    fn contains_token(&self, token: T) -> bool {
+        self.0.contains_token(token)
+            || self.1.contains_token(token)
+            || self.2.contains_token(token)
+            || self.3.contains_token(token)
+            || self.4.contains_token(token)
+            || self.5.contains_token(token)
+            || self.6.contains_token(token)
+            || self.7.contains_token(token)
+            || self.8.contains_token(token)
+    }
+}
+
+impl<
+    T: Copy,
+    S1: ContainsToken<T>,
+    S2: ContainsToken<T>,
+    S3: ContainsToken<T>,
+    S4: ContainsToken<T>,
+    S5: ContainsToken<T>,
+    S6: ContainsToken<T>,
+    S7: ContainsToken<T>,
+    S8: ContainsToken<T>,
+    S9: ContainsToken<T>,
+    S10: ContainsToken<T>,
+> ContainsToken<T> for (S1, S2, S3, S4, S5, S6, S7, S8, S9, S10) {
+    ghost can_test = { λ s. S1.can_test s.0 × S2.can_test s.1 × S3.can_test s.2
+        × S4.can_test s.3 × S5.can_test s.4 × S6.can_test s.5 × S7.can_test s.6
+        × S8.can_test s.7 × S9.can_test s.8 × S10.can_test s.9 };
+
+    ghost tells = { λ s t b. InEither (S1.tells s.0)
+        (InEither (S2.tells s.1)
+        (InEither (S3.tells s.2)
+        (InEither (S4.tells s.3)
+        (InEither (S5.tells s.4)
+        (InEither (S6.tells s.5)
+        (InEither (S7.tells s.6)
+        (InEither (S8.tells s.7) (InEither (S9.tells s.8) (S10.tells s.9))))))))) t b };
+
+    #[inline(always)]
+    fn contains_token(&self, token: T) -> bool {
+        self.0.contains_token(token)
+            || self.1.contains_token(token)
+            || self.2.contains_token(token)
+            || self.3.contains_token(token)
+            || self.4.contains_token(token)
+            || self.5.contains_token(token)
+            || self.6.contains_token(token)
+            || self.7.contains_token(token)
+            || self.8.contains_token(token)
+            || self.9.contains_token(token)
+    }
+}

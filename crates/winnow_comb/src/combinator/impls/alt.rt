@@ -15,7 +15,7 @@ use stream_errors::parser_error::ParserError;
 use streams::stream::Stream;
 use winnow_core::parser::Parser;
 
-/// The branches of [`alt`](crate::combinator::alt): a tuple of one to six parsers, or an array or a
+/// The branches of [`alt`](crate::combinator::alt): a tuple of one to nine parsers, or an array or a
 /// mutable slice of parsers of one type.
 ///
 /// ```

@@ -4,6 +4,8 @@
 ghost use Rattle.parser_definitions.specs.Alt.{AltDoes};
 ghost use Rattle.parser_definitions.specs.Projects.Choices.{alt_meets, alt_terms};
 
+mod long;
+
 use crate::combinator::impls::alt::{Alt, attempt};
 use stream_errors::parser_error::ParserError;
 use streams::stream::Stream;
