@@ -17,17 +17,25 @@ use test_support::texts::{OfText, whole};
 use winnow_comb::combinator;
 use winnow_comb::combinator::impls::Fail;
 
-/// A choice among six. One among none is an assert error, of this kind.
-fn alt_of_six<E: ParserError<Bytes>>(rt: &impl Abort, asserted: Kind) {
+/// Choices among six and among nine. One among none is an assert error, of this kind.
+fn alt_of_many<E: ParserError<Bytes>>(rt: &impl Abort, asserted: Kind) {
     let rows = [
         ("a;", Ok(b'a'), ";"),
         ("c;", Ok(b'c'), ";"),
         ("f;", Ok(b'f'), ";"),
-        ("g;", Err(Backtrack), "g;"),
+        ("j;", Err(Backtrack), "j;"),
         ("", Err(Backtrack), ""),
     ];
     let six = combinator::alt((b'a', b'b', b'c', b'd', b'e', b'f'));
     answers_each::<Bytes, u8, E, _>(rt, "alt of six", six, &rows);
+    let nine = combinator::alt((b'a', b'b', b'c', b'd', b'e', b'f', b'g', b'h', b'i'));
+    let rows = [
+        ("f;", Ok(b'f'), ";"),
+        ("g;", Ok(b'g'), ";"),
+        ("i;", Ok(b'i'), ";"),
+        ("j;", Err(Backtrack), "j;"),
+    ];
+    answers_each::<Bytes, u8, E, _>(rt, "alt of nine", nine, &rows);
     let none: [u8; 0] = [];
     let none = combinator::alt(none);
     answers::<Bytes, u8, E, _>(rt, "alt of none", none, "a", Err(asserted), "a");
@@ -36,8 +44,8 @@ fn alt_of_six<E: ParserError<Bytes>>(rt: &impl Abort, asserted: Kind) {
 /// A choice runs each branch from the start, and ends at the first that does not backtrack.
 #[test]
 fn alt(rt: HostRuntime) {
-    alt_of_six::<AtBytes>(&rt, Cut);
-    alt_of_six::<Plain>(&rt, Backtrack);
+    alt_of_many::<AtBytes>(&rt, Cut);
+    alt_of_many::<Plain>(&rt, Backtrack);
     let rows = [
         ("ab;", Ok(b'b'), ";"),
         ("ac;", Ok(b'c'), ";"),

@@ -9,11 +9,7 @@ use winnow::token::{one_of, take};
 type Fails = ErrMode<EmptyError>;
 
 #[test]
-fn branches_nest(rt: HostRuntime) {
-    let mut input = "g";
-    let read: Result<char, Fails> =
-        alt(('a', 'b', 'c', 'd', 'e', alt(('f', 'g')))).parse_next(&mut input);
-    assert_eq!(rt; read.ok(), Some('g'));
+fn members_nest(rt: HostRuntime) {
     let mut parts = ('a', 'b', 'c', 'd', 'e', ('f', 'g'));
     let read: Result<_, Fails> = parts.parse_next(&mut "abcdefg");
     assert_eq!(rt; read.ok(), Some(('a', 'b', 'c', 'd', 'e', ('f', 'g'))));

@@ -18,14 +18,6 @@ fn closures_are_wrapped(rt: HostRuntime) {
 }
 
 #[test]
-fn sets_nest(rt: HostRuntime) {
-    let mut input = "hg-";
-    let set = ('a', 'b', 'c', 'd', 'e', ('f', 'g', 'h'));
-    let read: Result<&str, Fails> = take_while(1.., set).parse_next(&mut input);
-    assert_eq!(rt; read.ok(), Some("hg"));
-}
-
-#[test]
 fn tokens_are_literals(rt: HostRuntime) {
     let mut input = Partial::new("");
     let read: Result<char, Fails> = 'a'.parse_next(&mut input);

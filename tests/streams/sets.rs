@@ -66,6 +66,8 @@ fn several<T: AsChar + From<u8> + Copy>(rt: &impl Abort) {
     let six = (b'a', b'b', b'c', b'd', b'e', b'f');
     has(rt, "six of f", six, T::from(b'f'), true);
     has(rt, "six of g", six, T::from(b'g'), false);
+    let ten = ('a', 'b', 'c', 'd', 'e', 'f', 'g', 'h', 'i', b'0'..=b'9');
+    has(rt, "ten of 7", ten, T::from(b'7'), true);
     has(rt, "one of a", (b'a',), T::from(b'a'), true);
 }
 
