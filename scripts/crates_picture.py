@@ -70,7 +70,7 @@ def kind_of(name, on):
         return "callers"
     if name.startswith("winnow_expression"):
         return "expressions"
-    if name in ("winnow", "winnow_laws", "winnow_grammar"):
+    if name in ("winnow", "winnow_grammar"):
         return "above"
     return "parsers" if name == "winnow_core" or "winnow_core" in on[name] else "streams"
 

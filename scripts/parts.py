@@ -13,7 +13,7 @@ PARTS = {
     "bits": ["stream_bits", "winnow_bits"],
     "expressions": ["winnow_expression"],
     "recovery": ["stream_recovery", "winnow_recovery"],
-    "laws": ["winnow_laws", "winnow_expression_trees"],
+    "laws": ["winnow_expression_trees"],
 }
 USE = re.compile(r"^pub use ([\w:]+)::(\w+(?: as \w+)?|\{[^}]*\});\n", re.MULTILINE)
 

@@ -12,7 +12,7 @@ ALL = "the definitions of all parsers, which it refers to"
 DOES = re.compile(r"ghost does = \{(.*?)\};", re.DOTALL)
 # The functions by the first cells of their rows, each with its file.
 FUNCTIONS = {
-    "`calls_match_their_derivations`": "winnow_laws/src/laws.rt",
+    "`Parser::read_outcome`": "winnow_core/src/parser.rt",
     "`longer_inputs_get_partial_results`": "winnow_grammar/src/laws.rt",
     "`Parser::read`": "winnow_core/src/parser.rt",
     "`expression_is_unambiguous`": "winnow_expression_trees/src/laws.rt",

@@ -106,7 +106,6 @@ PAGES = [
     ("error_types", "Error types", "error", "*"),
     ("exact", "Functions as parsers with a grammar", "exact", "*"),
     ("laws", "Laws of all parsers and streams", "laws", "@winnow_core"),
-    ("laws_calls", "The law of each call", "laws", "@winnow_laws"),
     (
         "laws_parsers",
         "Laws of tokens, text, numbers and bits",

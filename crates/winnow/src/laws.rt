@@ -30,7 +30,6 @@ pub use winnow_expression_trees::laws::{
 };
 pub use winnow_grammar::laws::longer_inputs_get_partial_results;
 pub use winnow_integers::laws::little_endian_is_big_endian_of_the_reversed_bytes;
-pub use winnow_laws::laws::calls_match_their_derivations;
 pub use winnow_recovery::laws::{
     no_errors_mean_success, resume_after_leaves_a_suffix, retry_after_leaves_a_suffix,
 };
