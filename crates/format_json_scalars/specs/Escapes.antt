@@ -8,7 +8,7 @@ use Rattle.stream_sets.specs.Range.{from_to}
 use Rattle.format_json_texts.specs.Strings.{ArePair, Character, Escape}
 use Rattle.format_json_texts.specs.Strings.{IsUnescaped, Quoted, StandsFor}
 use Rattle.format_json_texts.specs.Strings.{Unicode}
-use Rattle.winnow_token.specs.Any.Laws.{token_takes}
+use Rattle.parser_definitions.specs.Projects.Tokens.{token_takes}
 use Rattle.grammars.specs.Grammar.{Both, Gathered, Grammar, InClass, IsUnique, Many, TakesTokens}
 use Rattle.grammars.specs.Grammar.{Token}
 use Rattle.grammars.specs.Grammar.Meaning.{Meaning, meaning_takes, meaning_unique}

@@ -1,7 +1,6 @@
 -- Hexadecimal digits of escapes, four at a time: what is written, what is read, and that it is one.
 use Rattle.std.specs.Prelude.{◌≡◌, ◌⊎◌, ◌≤◌, ◌<◌, ◌+◌, ◌*◌, ℕ, List}
 use Rattle.std.proofs.Common.{sym, ap, subst, inl, inr, ◌∙◌, arith}
-use Rattle.winnow_token.specs.Any.Laws.{token_takes}
 use Rattle.streams.specs.Equal.{same_first, same_others}
 use Rattle.grammars.specs.Grammar.{Both, Grammar, IsUnique, Made, TakesTokens, Three, Token}
 use Rattle.grammars.specs.Grammar.Meaning.{Meaning, meaning_takes, meaning_unique}
@@ -14,6 +13,7 @@ use Rattle.grammars.specs.Texts.Fronts.{front_any}
 use Rattle.grammars.specs.Texts.Parts.{both_of, same_of}
 use Rattle.format_parts.specs.Words.{For, FourTexts, Whichever, any_of, for_of, four_same, pair}
 use Rattle.format_parts.specs.Words.{to_four}
+use Rattle.parser_definitions.specs.Projects.Tokens.{token_takes}
 
 -- HEXDIG, and its value
 abbrev pub IsHex : ℕ → ℕ → Type 0

@@ -40,7 +40,7 @@ pub record Claimed {S T O : Type 0} (claim : Claim T O) (s : S) (does : Does S T
   pub takes : claim.premise → claim.consumes → TakesTokens claim.grammar
 
 -- The definition meets its terms.
-pub record Meets {S T O : Type 0} (terms : Terms S T O) (does : Does S T O) : Type 0 where
+pub record MeetsTerms {S T O : Type 0} (terms : Terms S T O) (does : Does S T O) : Type 0 where
   pub law : terms.premise → Lawful terms.stable terms.alike does
   pub claimed : (s : S) → Claimed (terms.claim s) s does
 
@@ -75,7 +75,7 @@ no_terms = record {
   claim = λ _. no_claim;
 }
 
-pub meets_no_terms : {S T O : Type 0} {does : Does S T O} → Meets no_terms does
+pub meets_no_terms : {S T O : Type 0} {does : Does S T O} → MeetsTerms no_terms does
 meets_no_terms = record {
   law = λ never. absurd never;
   claimed = λ _. nothing_claimed;

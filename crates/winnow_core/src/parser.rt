@@ -6,7 +6,7 @@ ghost use Rattle.stream_errors.specs.Form.{answer_by, modal};
 ghost use Rattle.parser_definitions.specs.Does.{Gets, Ran};
 ghost use Rattle.parser_definitions.specs.Left.{left_of};
 ghost use Rattle.parser_definitions.specs.Outcome.{Does, outcome_of};
-ghost use Rattle.parser_definitions.specs.Terms.{Meets, Terms};
+ghost use Rattle.parser_definitions.specs.Terms.{MeetsTerms, Terms};
 ghost use Rattle.winnow_core.specs.ByRef.{by_ref_name, by_ref_parser};
 ghost use Rattle.winnow_core.specs.Exact.{IsSpared, Reads, UnlessWanted};
 ghost use Rattle.winnow_core.specs.Exact.Whole.{IsWant, ReadsAll};
@@ -545,5 +545,5 @@ pub trait Parser<I: Stream, O, E: ParserError<I>>: Sized {
 
     // State and input determine the outcome; if the parser is stable, a final outcome on partial
     // input is the outcome of every longer input; and the outcomes agree with the grammar.
-    ghost lawful: { Meets terms does };
+    ghost lawful: { MeetsTerms terms does };
 }

@@ -5,7 +5,6 @@ use Rattle.streams.specs.Kind.{Kind}
 use Rattle.streams.specs.Reading.{Reading}
 use Rattle.stream_errors.specs.Form.{ErrorForm, Answer}
 use Rattle.winnow_core.specs.Short.{ShortKind}
-pub mod Laws
 
 -- A call on empty input: an error, or `Incomplete` with a need of 1 unit on partial input.
 abbrev pub NoTokenRuns : {T O : Type 0} → ErrorForm → Input T → Answer O → Input T → Type 0

@@ -17,7 +17,7 @@ use Rattle.parser_definitions.specs.Projects.{reads_given, reads_takes}
 use Rattle.parser_definitions.specs.Projects.Then.{cuts_read, cuts_read_start, else_reads, in_reads}
 use Rattle.parser_definitions.specs.Projects.Then.{start_reads, takes_none_reads, takes_reads}
 use Rattle.parser_definitions.specs.Projects.Then.{then_reads, where_reads}
-use Rattle.parser_definitions.specs.Terms.{Meets, Terms}
+use Rattle.parser_definitions.specs.Terms.{MeetsTerms, Terms}
 use Rattle.parser_definitions.specs.Then.Steps.{instead, second, with_first}
 use Rattle.parser_definitions.specs.Then.Steps.{with_second}
 
@@ -158,8 +158,8 @@ alt_terms one others = record {
 }
 
 pub alt_meets : {S1 S2 T O : Type 0} {terms1 : Terms S1 T O} {terms2 : Terms S2 T O}
-    {does1 : Does S1 T O} {does2 : Does S2 T O} → Meets terms1 does1 → Meets terms2 does2
-    → Meets (alt_terms terms1 terms2) (AltDoes does1 does2)
+    {does1 : Does S1 T O} {does2 : Does S2 T O} → MeetsTerms terms1 does1 → MeetsTerms terms2 does2
+    → MeetsTerms (alt_terms terms1 terms2) (AltDoes does1 does2)
 alt_meets one others = record {
   law = λ is. alt_law (one.law is.0) (others.law is.1);
   claimed = λ s. record {

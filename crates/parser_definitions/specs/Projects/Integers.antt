@@ -6,7 +6,7 @@ use Rattle.parser_definitions.specs.Integer.{IntegerDoes, IsInteger, integer_law
 use Rattle.parser_definitions.specs.Integer.{missing_bytes}
 use Rattle.parser_definitions.specs.IntegerGrammar.{Integer, integer_takes, integer_unique}
 use Rattle.parser_definitions.specs.Projects.{reads_cases, reads_lacks, reads_takes}
-use Rattle.parser_definitions.specs.Terms.{Meets, Terms}
+use Rattle.parser_definitions.specs.Terms.{MeetsTerms, Terms}
 
 -- The terms of an integer of `width` bytes. `value` computes it from a state.
 abbrev pub integer_terms : {S O : Type 0} → ℕ → (S → List ℕ → O) → Terms S ℕ O
@@ -28,7 +28,7 @@ pub some_bytes : (n : ℕ) → 0 < suc n
 some_bytes n = omega arith
 
 pub integer_meets : {S L O : Type 0} (width : ℕ) (value : S → List ℕ → O) (reading : Reading ℕ L)
-    → 0 < width → Meets (integer_terms width value) (IntegerDoes width value reading)
+    → 0 < width → MeetsTerms (integer_terms width value) (IntegerDoes width value reading)
 unfolding Integer
 integer_meets width value reading some = record {
   law = λ is. integer_law width value reading;

@@ -19,7 +19,7 @@ use Rattle.parser_definitions.specs.Projects.Then.{else_reads, other_agrees}
 use Rattle.parser_definitions.specs.Projects.Then.{takes_reads, then_reads}
 use Rattle.parser_definitions.specs.Projects.Tokens.{longest_takes, take_while_projects}
 use Rattle.parser_definitions.specs.Spelled.{ShowSame}
-use Rattle.parser_definitions.specs.Terms.{Meets, Terms}
+use Rattle.parser_definitions.specs.Terms.{MeetsTerms, Terms}
 use Rattle.parser_definitions.specs.Then.Steps.{instead}
 use Rattle.parser_definitions.specs.TillLineEnding.{HasBoth, HasReturn, IsLine, IsLone}
 use Rattle.parser_definitions.specs.TillLineEnding.{IsOpenLine, IsWholeLine, LacksEnd}
@@ -132,7 +132,7 @@ class_terms consumes class least code seen reading = record {
 
 pub class_meets : {S K T L : Type 0} {consumes : Type 0} (class : ℕ → Type 0) (least : ℕ)
     (code : K → ℕ) (seen : K → T) (reading : Reading T L) → (consumes → 0 < least)
-    → Meets {S = S} (class_terms consumes class least code seen reading)
+    → MeetsTerms {S = S} (class_terms consumes class least code seen reading)
     (ClassDoes class least code seen reading)
 class_meets class least code seen reading some = record {
   law = λ once. class_law class least code seen reading once;

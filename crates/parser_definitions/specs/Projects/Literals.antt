@@ -12,7 +12,7 @@ use Rattle.parser_definitions.specs.Literal.{literal_law}
 use Rattle.parser_definitions.specs.Projects.{Complete, Projects, reads_cases, reads_fails}
 use Rattle.parser_definitions.specs.Projects.{reads_lacks, reads_takes}
 use Rattle.parser_definitions.specs.Spelled.{ShowSame}
-use Rattle.parser_definitions.specs.Terms.{Meets, Terms}
+use Rattle.parser_definitions.specs.Terms.{MeetsTerms, Terms}
 
 -- The terms of a literal with the spellings `spells`. `output` computes its output.
 abbrev pub literal_terms : {S T L O : Type 0} → Reading T L → (S → List T → Type 0)
@@ -55,7 +55,7 @@ module _ {T S L O : Type 0} (reading : Reading T L) (spells : S → List T → T
       → ((s : S) (xs ys : List T) → spells s xs → spells s ys
       → reading.units xs ≡ reading.units ys)
       → ((s : S) (u v : L) → ShowSame reading u v → alike (output s u) (output s v))
-      → Meets (literal_terms reading spells output alike) (LiteralDoes reading spells output)
+      → MeetsTerms (literal_terms reading spells output alike) (LiteralDoes reading spells output)
   literal_meets alike same_units shown = record {
     law = λ is. literal_law reading spells output alike same_units shown;
     claimed = λ s. record {

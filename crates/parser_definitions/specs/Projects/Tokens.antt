@@ -32,6 +32,10 @@ use Rattle.parser_definitions.specs.TakeWhile.{missing_members}
 
 -- ---- one token
 
+pub token_takes : {K T : Type 0} (seen : K → T) → TakesTokens (Token seen)
+unfolding Token
+token_takes seen = record { fewer = λ tokens k rest e. omega (arith, ap (λ l. length l) e) }
+
 module _ {X K T L : Type 0} {b m : Type 0} {at : Complete} {x : X} (seen : K → T)
     (reading : Reading T L) where
   pub any_projects : Projects b m (AnyDoes seen reading) at x (Token seen)

@@ -1,29 +1,15 @@
 -- Lemmas for callers about one call of `take` of bits.
-use Rattle.std.specs.Prelude.{◌≡◌, ℕ, Bool, true, false, List, ◌++◌, Option, Some, Ok}
+use Rattle.std.specs.Prelude.{◌≡◌, ℕ, Bool, List, ◌++◌, Some, Ok}
 use Rattle.std.proofs.Common.{ap, sym, inl, inr, ◌∙◌}
 use Rattle.streams.specs.Input.{Input, Status}
 use Rattle.streams.specs.Kind.{Kind}
 use Rattle.streams.specs.Reading.{Reading}
-use Rattle.stream_errors.specs.Form.{ErrorForm, modal, plain}
+use Rattle.stream_errors.specs.Form.{ErrorForm}
 use Rattle.stream_bits.specs.Within.{ReadsNumber}
 use Rattle.parser_definitions.specs.BitTake.{BitTakeDoes}
 use Rattle.parser_definitions.specs.Does.{Ran}
+use Rattle.parser_definitions.specs.Inversion.Outcomes.{lacks_none, misused_none, same_took}
 use Rattle.parser_definitions.specs.Left.{left_of}
-use Rattle.parser_definitions.specs.Outcome.{lacks_by, misused_by, took}
-
-pub took_is_misused : {L O P : Type 0} (form : ErrorForm) {o : O} {k : L} (l : L)
-    → took o k ≡ misused_by form l → P
-took_is_misused modal l e = absurd (cc)
-took_is_misused plain l e = absurd (cc)
-
-pub took_is_lacks : {L O P : Type 0} (form : ErrorForm) (more : Bool) (need : Option ℕ) {o : O}
-    {k : L} (l : L) → took o k ≡ lacks_by form more need l → P
-took_is_lacks modal true need l e = absurd (cc)
-took_is_lacks modal false need l e = absurd (cc)
-took_is_lacks plain more need l e = absurd (cc)
-
-pub same_took : {L O : Type 0} {o p : O} {k l : L} → took o k ≡ took p l → (o ≡ p) × (k ≡ l)
-same_took e = (cc, cc)
 
 -- the first bits are taken, and are the number
 pub bit_take_ok : {O L : Type 0} (number : O → ℕ) (width : ℕ) (reading : Reading Bool L)
@@ -48,6 +34,6 @@ bit_take_ok number width reading form n i o m j
       };
     }
 bit_take_ok number width reading form n i o m j (ends, more, can, inr (inl (cannot, e))) =
-    took_is_misused form (n, left_of i) e
+    misused_none form (n, left_of i) _ _ e
 bit_take_ok number width reading form n i o m j (ends, more, can, inr (inr (few, e))) =
-    took_is_lacks form i.status.cut (Some n) (n, left_of i) e
+    lacks_none form i.status.cut (Some n) (n, left_of i) _ _ e

@@ -8,10 +8,10 @@ use Rattle.stream_bits.specs.BitList.{bits_append, bits_of, length_bits, number_
 use Rattle.stream_bits.specs.BitReading.{bits_reading}
 use Rattle.parser_definitions.specs.BitsOfBytes.{BitsOfBytesDoes, InBytes, LeavesWholeBytes}
 use Rattle.parser_definitions.specs.BitsOfBytes.{bits_left, inside}
+use Rattle.parser_definitions.specs.Inversion.Outcomes.{misused_none, same_took}
 use Rattle.parser_definitions.specs.Left.{End, Left}
 use Rattle.parser_definitions.specs.Outcome.{Does, Outcome, Setting, asks, backs, cuts, took, wants}
 use Rattle.parser_definitions.specs.Passed.{Passed}
-use Rattle.winnow_bits.specs.BitTake.Inversion.{same_took, took_is_misused}
 
 -- The parser ran on the bits, and the whole bytes among its remaining bits remain.
 pub record RanOnBits {S L O : Type 0} (reading : Reading ℕ L) (does : Does S Bool O) (at : Setting)
@@ -24,7 +24,7 @@ pub record RanOnBits {S L O : Type 0} (reading : Reading ℕ L) (does : Does S B
 pub bits_ok : {S L O : Type 0} (reading : Reading ℕ L) (does : Does S Bool O) (at : Setting)
     (s : S) (w : Left ℕ) (o : O) (end : End S ℕ)
     → BitsOfBytesDoes reading does at s w (took o end) → RanOnBits reading does at s w o end
-bits_ok {S} {L} {O} reading does at s w o end (inr (many, e)) = took_is_misused at.form (s, w) e
+bits_ok {S} {L} {O} reading does at s w o end (inr (many, e)) = misused_none at.form (s, w) _ _ e
 bits_ok {S} {L} {O} reading does at s w o end (inl (few, x, d, c)) = by x d c
   where
     by : (x : Outcome (End S Bool) O) → does (inside at) s (bits_left w) x

@@ -5,7 +5,7 @@ ghost use Rattle.streams.specs.Input.{IsEndOf};
 ghost use Rattle.parser_definitions.specs.Does.{Ran};
 ghost use Rattle.parser_definitions.specs.Outcome.{Does};
 ghost use Rattle.winnow_comb.specs.Attempt.{AttemptRuns};
-ghost use Rattle.parser_definitions.specs.Terms.{Meets, Terms};
+ghost use Rattle.parser_definitions.specs.Terms.{MeetsTerms, Terms};
 
 mod slices;
 mod tuples;
@@ -15,8 +15,8 @@ use stream_errors::parser_error::ParserError;
 use streams::stream::Stream;
 use winnow_core::parser::Parser;
 
-/// The branches of [`alt`](crate::combinator::alt): a tuple of one to nine parsers, or an array or a
-/// mutable slice of parsers of one type.
+/// The branches of [`alt`](crate::combinator::alt): a tuple of one to nine parsers, or an array or
+/// a mutable slice of parsers of one type.
 ///
 /// ```
 /// let mut input = "b";
@@ -49,7 +49,7 @@ pub trait Alt<I: Stream, O, E: ParserError<I>> {
             (answer_by E.kind result) (state self.new) (I.view input.new) };
 
     // The laws of the definition.
-    ghost lawful: { Meets terms does };
+    ghost lawful: { MeetsTerms terms does };
 }
 
 /// The parser that [`alt`](crate::combinator::alt) makes.

@@ -1,9 +1,8 @@
 //! One token.
 ghost use Rattle.std.specs.Prelude.{⊤};
 ghost use Rattle.grammars.specs.Grammar.{Token};
-ghost use Rattle.winnow_token.specs.Any.Laws.{token_takes};
 ghost use Rattle.parser_definitions.specs.Any.{AnyDoes, any_law};
-ghost use Rattle.parser_definitions.specs.Projects.Tokens.{any_projects};
+ghost use Rattle.parser_definitions.specs.Projects.Tokens.{any_projects, token_takes};
 ghost use Rattle.parser_definitions.specs.Shown.{SeenSame};
 
 use crate::token::any;
