@@ -15,7 +15,7 @@ use Rattle.parser_definitions.specs.Outcome.{took}
 use Rattle.parser_definitions.specs.SeparatedFold.{JoinsLinks, PairsDo, SeparatedFoldl1Does}
 use Rattle.parser_definitions.specs.SeparatedFold.{SeparatedFoldr1Does, folds_links, joining}
 use Rattle.parser_definitions.specs.Then.{Then}
-use Rattle.parser_definitions.specs.Then.Steps.{and_then, first, instead, same, second, takes}
+use Rattle.parser_definitions.specs.Then.Steps.{and_then, first, instead, same, second}
 use Rattle.parser_definitions.specs.Then.Steps.{then_next, where_took}
 use Rattle.parser_definitions.specs.Threes.{one_of, pair_of, three_of, turned_of, with_pair}
 use Rattle.parser_definitions.specs.Threes.{with_three}
@@ -25,7 +25,8 @@ use Rattle.winnow_separated.specs.FoldLaws.{here, onward}
 use Rattle.winnow_separated.specs.FoldLaws as laws
 use Rattle.winnow_separated.specs.SeparatedFoldl1.{FoldsLeft}
 use Rattle.winnow_separated.specs.SeparatedFoldr1.{FoldsRight}
-use Rattle.winnow_separated.proofs.TurnsInversion.{Turns, misused_none, same_took}
+use Rattle.parser_definitions.specs.Inversion.Outcomes.{misused_none, same_took}
+use Rattle.winnow_separated.proofs.TurnsInversion.{Turns}
 use Rattle.winnow_separated.proofs.TurnsInversion.{then_ok, turn_ended, turn_went}
 use Rattle.winnow_separated.proofs.FoldTurns.{Ended, ToLeft, ToRight, link_ended, link_went}
 use Rattle.winnow_separated.proofs.FoldTurns.{pair_ended, pair_went}

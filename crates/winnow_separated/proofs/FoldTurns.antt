@@ -11,8 +11,8 @@ use Rattle.parser_definitions.specs.Then.{Comes}
 use Rattle.parser_definitions.specs.Then.Steps.{first, instead, same, second, takes}
 use Rattle.parser_definitions.specs.Then.Steps.{then_next, where_took, with_first, with_second}
 use Rattle.winnow_separated.specs.FoldLaws.{IsTurn}
-use Rattle.winnow_separated.specs.FoldLaws as laws
-use Rattle.winnow_separated.proofs.TurnsInversion.{same_took, then_backs}
+use Rattle.parser_definitions.specs.Inversion.Outcomes.{same_took}
+use Rattle.winnow_separated.proofs.TurnsInversion.{then_backs}
 use Rattle.winnow_separated.proofs.TurnsInversion.{then_ok}
 
 module _ {S W T O D : Type 0} (element : Does S T O) (separator : Does W T D) (at : Setting) where

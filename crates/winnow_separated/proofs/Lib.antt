@@ -1,5 +1,8 @@
 mod FoldLaw
+mod FoldLemmas
 mod FoldTurns
+mod LinkLemmas
 mod SeparatedLaw
 mod SeparatedLemmas
+mod TurnLemmas
 mod TurnsInversion

@@ -15,7 +15,8 @@ use Rattle.parser_definitions.specs.Separated.{Elements, SeparatedDoes, first_ne
 use Rattle.parser_definitions.specs.Then.{ComesOf}
 use Rattle.parser_definitions.specs.Threes.{one_of, pair_of, with_one, with_pair}
 use Rattle.winnow_separated.specs.SeparatedLaws.{LeavesTheSeparator, NoElement, SomeElements}
-use Rattle.winnow_separated.proofs.TurnsInversion.{Turns, misused_none, same_took, turn_ended}
+use Rattle.parser_definitions.specs.Inversion.Outcomes.{misused_none, same_took}
+use Rattle.winnow_separated.proofs.TurnsInversion.{Turns, turn_ended}
 use Rattle.winnow_separated.proofs.TurnsInversion.{turn_went}
 
 module _ {S W T O D C : Type 0} (element : Does S T O) (separator : Does W T D)

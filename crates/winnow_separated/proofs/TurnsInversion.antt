@@ -1,26 +1,16 @@
 -- What turns of items did that have no greatest number.
 use Rattle.std.specs.Prelude.{◌≡◌, ◌⊎◌, ◌+◌, ℕ, Option, Some, None}
 use Rattle.std.proofs.Common.{sym, subst, ap, ◌∙◌, inl, inr}
-use Rattle.stream_errors.specs.Form.{ErrorForm, modal, plain}
 use Rattle.stream_sets.specs.Range.{from_to}
 use Rattle.parser_definitions.specs.Folding.{Folding}
+use Rattle.parser_definitions.specs.Inversion.Outcomes.{misused_none, same_took}
 use Rattle.parser_definitions.specs.Items.{ItemsTurn}
 use Rattle.parser_definitions.specs.Left.{End, Left, back}
 use Rattle.parser_definitions.specs.Loop.{Turn, continues, last_comes, last_turn, returns}
-use Rattle.parser_definitions.specs.Outcome.{Does, Outcome, Setting, asks, backs, cuts, misused_by}
+use Rattle.parser_definitions.specs.Outcome.{Does, Setting, asks, backs, cuts}
 use Rattle.parser_definitions.specs.Outcome.{took, wants}
 use Rattle.parser_definitions.specs.Then.{Comes, Then}
 use Rattle.parser_definitions.specs.Then.Steps.{instead, same, where_took}
-
--- a misuse is no output
-pub misused_none : {P L O : Type 0} (form : ErrorForm) (end place : L) (o : O)
-    → took o place ≡ misused_by form end → P
-misused_none modal end place o e = absurd (cc)
-misused_none plain end place o e = absurd (cc)
-
-pub same_took : {L O : Type 0} {o p : O} {a b : L} → ◌≡◌ {A = Outcome L O} (took o a) (took p b)
-    → (o ≡ p) × (a ≡ b)
-same_took e = (cc, cc)
 
 -- A call that returned an output, or backtracked, by the call of a child.
 module _ {S Q T O U : Type 0} (get : Q → S) (put : Q → S → Q) (does : Does S T O)

@@ -1,8 +1,8 @@
 //! A separator and the element after it.
 ghost use Rattle.parser_definitions.specs.Does.{Ran};
+ghost use Rattle.std.specs.Prelude.{◌<◌, IfOk, IfSome, length};
 ghost use Rattle.stream_errors.specs.Form.{answer_by};
-ghost use Rattle.streams.specs.Input.{IsEndOf};
-ghost use Rattle.winnow_separated.specs.Link.{LinkTried};
+ghost use Rattle.winnow_separated.specs.Link.{LinkDoes};
 
 use stream_errors::parser_error::ParserError;
 use streams::stream::Stream;
@@ -29,11 +29,12 @@ impl<P, S> Link<P, S> {
         requires parser { P.can_parse self.old.parser }
         requires separator { S.can_parse self.old.separator }
         ensures again { P.can_parse self.new.parser × S.can_parse self.new.separator }
-        ensures ran { LinkTried (Ran I.reading P.does E.form) (Ran I.reading S.does E.form)
+        ensures ran { Ran I.reading (LinkDoes P.does S.does) E.form
             (P.state self.old.parser, S.state self.old.separator) (I.view input.old)
             (answer_by E.kind result) (P.state self.new.parser, S.state self.new.separator)
             (I.view input.new) }
-        ensures ends { IsEndOf I.reading (I.view input.new) (I.view input.old) }
+        ensures consumes { IfOk result (λ link. IfSome link (λ _.
+            length (I.view input.new).left.tokens < length (I.view input.old).left.tokens)) }
     {
         let left = input.eof_offset();
         let separator = self.separator.parse_next(input)?;

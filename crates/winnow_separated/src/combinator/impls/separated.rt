@@ -1,17 +1,17 @@
 //! Elements with separators between them.
+ghost use Rattle.grammars.specs.Grammar.{SeparatedBy};
 ghost use Rattle.parser_definitions.specs.Does.{Ran};
+ghost use Rattle.parser_definitions.specs.Folding.{Built, gathering};
+ghost use Rattle.parser_definitions.specs.Items.{Items};
+ghost use Rattle.parser_definitions.specs.Projects.Separates.{separated_projects, separated_takes};
+ghost use Rattle.parser_definitions.specs.Projects.{Complete};
+ghost use Rattle.parser_definitions.specs.Separated.{Elements, SeparatedDoes, separated_law};
+ghost use Rattle.parser_definitions.specs.Threes.{one_of, pair_of, with_one, with_pair};
 ghost use Rattle.std.specs.Prelude.{◌<◌, ⊤, true};
-ghost use Rattle.streams.specs.Input.{IsEndOf};
+ghost use Rattle.stream_errors.specs.Form.{answer_by, modal};
 ghost use Rattle.stream_sets.specs.Range.{IsWithin, from_to, bounds_of};
 ghost use Rattle.stream_sets.specs.declared.range.Range.{Range};
-ghost use Rattle.grammars.specs.Grammar.{SeparatedBy};
-ghost use Rattle.stream_errors.specs.Form.{answer_by, assert_kind, modal};
-ghost use Rattle.winnow_separated.specs.Separated.{ElementsRun, LinksRun};
-ghost use Rattle.winnow_separated.specs.Separated.{SeparatedRuns};
-ghost use Rattle.parser_definitions.specs.Folding.{Built, gathering};
-ghost use Rattle.parser_definitions.specs.Projects.{Complete};
-ghost use Rattle.parser_definitions.specs.Projects.Separates.{separated_projects, separated_takes};
-ghost use Rattle.parser_definitions.specs.Separated.{SeparatedDoes, separated_law};
+ghost use Rattle.winnow_separated.specs.Separated.{OnlyElements};
 
 use crate::combinator::impls::link::Link;
 use std::alloc::Allocator;
@@ -90,46 +90,17 @@ impl<
     fn parse_next(&mut self, input: &mut I) -> Result<C, E> {
         let least = self.occurrences.start_inclusive;
         let greatest = self.occurrences.greatest();
-        separated_many(self.alloc, least, greatest, &mut self.link, input)
+        if is_descending(least, greatest) {
+            return Err(E::assert(input, "the greatest count is below the least"));
+        }
+        match C::initial(self.alloc, greatest.map(|_: usize| least)) {
+            Ok(all) => separated_elements(all, least, greatest, &mut self.link, input),
+            Err(_) => Err(E::no_memory(input)),
+        }
     }
 }
 
-/// Parses elements into an accumulator, at least `least`, and at most `greatest` if there is a
-/// bound.
-fn separated_many<
-    P: Parser<I, O, E>,
-    S: Parser<I, D, E>,
-    I: Stream,
-    O: Drop,
-    D: Drop,
-    C: Accumulate<O, A>,
-    E: ParserError<I>,
-    A: Allocator + Copy,
->(
-    alloc: A,
-    least: usize,
-    greatest: Option<usize>,
-    link: &mut Link<P, S>,
-    input: &mut I,
-) -> Result<C, E>
-    requires parser { P.can_parse link.old.parser }
-    requires separator { S.can_parse link.old.separator }
-    ensures again { P.can_parse link.new.parser × S.can_parse link.new.separator }
-    ensures ran { SeparatedRuns (Ran I.reading P.does E.form) (Ran I.reading S.does E.form)
-        C.accumulator (assert_kind E.form) (from_to least greatest)
-        (P.state link.old.parser, S.state link.old.separator) (I.view input.old)
-        (answer_by E.kind result) (P.state link.new.parser, S.state link.new.separator)
-        (I.view input.new) }
-    ensures ends { IsEndOf I.reading (I.view input.new) (I.view input.old) }
-{
-    if is_descending(least, greatest) {
-        return Err(E::assert(input, "the greatest count is below the least"));
-    }
-    match C::initial(alloc, greatest.map(|_: usize| least)) {
-        Ok(all) => separated_elements(all, least, greatest, link, input),
-        Err(_) => Err(E::no_memory(input)),
-    }
-}
+// The range is in the state of the whole, and the functions below leave it as it is.
 
 /// Parses the first element and links after it into an accumulator, at least `least` and at most
 /// `greatest` elements.
@@ -151,14 +122,12 @@ fn separated_elements<
 ) -> Result<C, E>
     requires parser { P.can_parse link.old.parser }
     requires separator { S.can_parse link.old.separator }
-    requires range { IsWithin greatest least }
     ensures again { P.can_parse link.new.parser × S.can_parse link.new.separator }
-    ensures ran { ElementsRun (Ran I.reading P.does E.form) (Ran I.reading S.does E.form)
-        C.accumulator (assert_kind E.form) (from_to least greatest) all
-        (P.state link.old.parser, S.state link.old.separator) (I.view input.old)
-        (answer_by E.kind result) (P.state link.new.parser, S.state link.new.separator)
+    ensures ran { (range : Range) → Ran I.reading (Elements one_of with_one pair_of with_pair
+        (gathering C.accumulator) P.does S.does (from_to least greatest) all) E.form
+        (P.state link.old.parser, S.state link.old.separator, range) (I.view input.old)
+        (answer_by E.kind result) (P.state link.new.parser, S.state link.new.separator, range)
         (I.view input.new) }
-    ensures ends { IsEndOf I.reading (I.view input.new) (I.view input.old) }
 {
     if greatest == Some(0) {
         return Ok(all);
@@ -199,12 +168,11 @@ fn separated_links<
     requires parser { P.can_parse link.old.parser }
     requires separator { S.can_parse link.old.separator }
     ensures again { P.can_parse link.new.parser × S.can_parse link.new.separator }
-    ensures ran { LinksRun (Ran I.reading P.does E.form) (Ran I.reading S.does E.form)
-        C.accumulator (assert_kind E.form) (from_to missing room) all
-        (P.state link.old.parser, S.state link.old.separator) (I.view input.old)
-        (answer_by E.kind result) (P.state link.new.parser, S.state link.new.separator)
+    ensures ran { (range : Range) → Ran I.reading (Items pair_of with_pair (gathering C.accumulator)
+        (from_to missing room) (OnlyElements P.does S.does) all) E.form
+        (P.state link.old.parser, S.state link.old.separator, range) (I.view input.old)
+        (answer_by E.kind result) (P.state link.new.parser, S.state link.new.separator, range)
         (I.view input.new) }
-    ensures ends { IsEndOf I.reading (I.view input.new) (I.view input.old) }
 {
     let mut all = all;
     let mut missing = missing;

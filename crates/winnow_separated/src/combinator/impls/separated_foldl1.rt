@@ -1,13 +1,11 @@
 //! Elements with separators between them, folded to the left.
 ghost use Rattle.parser_definitions.specs.Does.{Ran};
 ghost use Rattle.std.specs.Prelude.{◌≡◌};
-ghost use Rattle.stream_errors.specs.Form.{answer_by, assert_kind};
-ghost use Rattle.streams.specs.Input.{IsEndOf};
-ghost use Rattle.winnow_separated.specs.SeparatedFoldl1.{JoinedLinksRun};
+ghost use Rattle.stream_errors.specs.Form.{answer_by};
 ghost use Rattle.winnow_separated.specs.SeparatedFoldl1.{foldl1_parser};
 ghost use Rattle.winnow_separated.specs.SeparatedFoldl1.{foldl1_separator};
 ghost use Rattle.parser_definitions.specs.Terms.{no_claim, nothing_claimed};
-ghost use Rattle.parser_definitions.specs.SeparatedFold.{AlikeLeft, JoinsAlike};
+ghost use Rattle.parser_definitions.specs.SeparatedFold.{AlikeLeft, JoinsAlike, JoinsLinks};
 ghost use Rattle.parser_definitions.specs.SeparatedFold.{SeparatedFoldl1Does};
 ghost use Rattle.parser_definitions.specs.SeparatedFold.{separated_foldl1_law};
 
@@ -99,12 +97,10 @@ fn join_left<
     requires op { H.IsAlwaysCallable op.old }
     ensures again { P.can_parse link.new.parser × S.can_parse link.new.separator
         × H.IsAlwaysCallable op.new }
-    ensures ran { JoinedLinksRun H.step (Ran I.reading P.does E.form) (Ran I.reading S.does E.form)
-        (assert_kind E.form) first
+    ensures ran { Ran I.reading (JoinsLinks H.step P.does S.does first) E.form
         (P.state link.old.parser, S.state link.old.separator, op.old) (I.view input.old)
         (answer_by E.kind result)
         (P.state link.new.parser, S.state link.new.separator, op.new) (I.view input.new) }
-    ensures ends { IsEndOf I.reading (I.view input.new) (I.view input.old) }
 {
     let mut value = first;
     'links: loop {

@@ -1,13 +1,9 @@
-use Rattle.parser_definitions.specs.Does.{Ran}
-use Rattle.std.proofs.Common.{rules, refl, arith, inl, inr, subst, length, [], ◌∷◌, ◌++◌, ◌≡◌, ◌<◌}
-use Rattle.std.proofs.Common.{length-append}
-use Rattle.std.proofs.lemmas.Fn.{FoldsTo-push}
-use Rattle.streams.specs.Input.{is_end_of_refl, is_end_of_trans}
-use Rattle.streams.specs.Kind.{Kind, backtrack}
-use Rattle.winnow_repeat.specs.Chain.{IsItem}
+use Rattle.std.proofs.Common.{rules, refl, arith, ◌≡◌, ◌<◌, ◌+◌}
+use Rattle.streams.specs.Kind.{backtrack}
 use Rattle.winnow_repeat.specs.Room.{no_room, room_behind_more, room_behind_none, some_room}
-use Rattle.winnow_separated.specs.Link.{LinkFails, LinkRuns}
-use Rattle.winnow_separated.proofs.SeparatedLemmas.{tried_link, tried_none}
+use Rattle.winnow_separated.proofs.LinkLemmas.{only_error, only_none, only_some}
+use Rattle.winnow_separated.proofs.TurnLemmas.{collected_more, collected_none, enough_ran}
+use Rattle.winnow_separated.proofs.TurnLemmas.{failed_ran, full_ran, stuck_ran, wanting_ran}
 use Rattle.winnow_separated.proofs.combinator.impls.separated.separated_links.Goals as goal
 use Rattle.winnow_separated.proofs.combinator.impls.separated.separated_links.Goals.{
   else-missing-eq0-via-then-missing-eq0+else-is_backtrack,
@@ -16,11 +12,9 @@ use Rattle.winnow_separated.proofs.combinator.impls.separated.separated_links.Go
 
 pub links-init : goal.links-init
 links-init g c = (
-  [],
-  record { runs = refl },
-  record { taken = refl },
+  0,
+  λ r. collected_none,
   room_behind_none _ _,
-  is_end_of_refl _ _,
   c.requires.parser,
   c.requires.separator,
 )
@@ -28,135 +22,62 @@ links-init g c = (
 pub returns-then-eq-clause-ran : goal.returns-then-eq-clause-ran
 returns-then-eq-clause-ran g c =
     let inv = c.links.invariant in
-    let full = no_room _ _ _ _ _ inv.3 (search rules depth 1) in
-    inl (inv.0, _, _, inv.1, inl (_, full, inv.2, refl, refl, refl))
+    let full = no_room _ _ _ _ _ inv.2 (search rules depth 1) in
+    λ r. full_ran (inv.1 r) full
 
 pub returns-in-Err-accumulate-clause-ran : goal.returns-in-Err-accumulate-clause-ran
 returns-in-Err-accumulate-clause-ran g c =
     let inv = c.links.invariant in
-    let form = g.E.HasKind.form in
-    let told = tried_link (Ran g.I.Stream.reading g.P.Parser.does form)
-    (Ran g.I.Stream.reading g.S.Parser.does form)
-    (g.P.Parser.state c.links.link.parser, g.S.Parser.state c.links.link.separator)
-    (g.I.Stream.view c.links.input) c.in-Ok-Some.field-0
-    (g.P.Parser.state c.run.new.self.parser, g.S.Parser.state c.run.new.self.separator)
-    (g.I.Stream.view c.run.new.input) (c.in-Ok-Some._separator, c.in-Ok-Some.output)
-    c.in-Ok-Some.field-0-is c.in-Ok-Some.ensures.ran in
-    let below = some_room _ _ _ _ _ inv.3 (λ e. search rules depth 1) in
-    inl (
-      inv.0,
-      _,
-      _,
-      inv.1,
-      inr (inr (inr (inr (
-        c.in-Ok-Some.output,
-        _,
-        below,
-        told.0,
-        told.1,
-        inv.2,
-        search rules depth 1,
-        search rules depth 1,
-      )))),
-    )
+    let below = some_room _ _ _ _ _ inv.2 (λ e. search rules depth 1) in
+    let element = only_some g.P.Parser.does g.S.Parser.does g.I.Stream.reading g.E.HasKind.form
+    _ _ _ _ _ _ c.in-Ok-Some.field-0-is c.in-Ok-Some.ensures.ran in
+    λ r. wanting_ran (inv.1 r) below _ _ _ element (search rules depth 1) _ c.no_memory.ensures
 
 pub returns-in-Ok-None-clause-ran : goal.returns-in-Ok-None-clause-ran
 returns-in-Ok-None-clause-ran g c =
     let inv = c.links.invariant in
-    let form = g.E.HasKind.form in
-    let told = tried_none (Ran g.I.Stream.reading g.P.Parser.does form)
-    (Ran g.I.Stream.reading g.S.Parser.does form)
-    (g.P.Parser.state c.links.link.parser, g.S.Parser.state c.links.link.separator)
-    (g.I.Stream.view c.links.input) c.in-Ok-None.field-0
-    (g.P.Parser.state c.run.new.self.parser, g.S.Parser.state c.run.new.self.separator)
-    (g.I.Stream.view c.run.new.input) c.in-Ok-None.field-0-is c.in-Ok-None.ensures.ran in
-    let below = some_room _ _ _ _ _ inv.3 (λ e. search rules depth 1) in
-    inr (
-      inv.0,
-      _,
-      _,
-      _,
-      inv.1,
-      below,
-      inv.2,
-      told,
-      search rules depth 1,
-    )
+    let below = some_room _ _ _ _ _ inv.2 (λ e. search rules depth 1) in
+    let element = only_none g.P.Parser.does g.S.Parser.does g.I.Stream.reading g.E.HasKind.form
+    _ _ _ _ _ c.in-Ok-None.field-0-is c.in-Ok-None.ensures.ran in
+    λ r. stuck_ran (inv.1 r) below _ _ element _ c.assert.ensures
 
 pub returns-then-is_backtrack-clause-ran : goal.returns-then-is_backtrack-clause-ran
 returns-then-is_backtrack-clause-ran g c =
     let inv = c.links.invariant in
-    let form = g.E.HasKind.form in
-    let below = some_room _ _ _ _ _ inv.3 (λ e. search rules depth 1) in
-    let is : g.E.HasKind.kind c.in-Err.error ≡ backtrack = search rules depth 1 in
-    let Fails : Kind → Type 0 =
-    λ k. LinkFails (Ran g.I.Stream.reading g.P.Parser.does form)
-    (Ran g.I.Stream.reading g.S.Parser.does form)
-    (g.P.Parser.state c.links.link.parser, g.S.Parser.state c.links.link.separator)
-    (g.I.Stream.view c.links.input) k
-    (g.P.Parser.state c.run.new.self.parser, g.S.Parser.state c.run.new.self.separator)
-    (g.I.Stream.view c.run.new.input) in
-    inl (
-      inv.0,
-      _,
-      _,
-      inv.1,
-      inr (inl (
-        _,
-        g.I.Stream.view c.run.new.input,
-        below,
-        omega (arith, inv.3.still_missing),
-        subst Fails is c.in-Err.ensures.ran,
-        inv.2,
-        refl,
-        search rules depth 1,
-      )),
-    )
+    let below = some_room _ _ _ _ _ inv.2 (λ e. search rules depth 1) in
+    let element = only_error g.P.Parser.does g.S.Parser.does g.I.Stream.reading g.E.HasKind.form
+    _ _
+    (g.P.Parser.state c.run.new.self.parser, g.S.Parser.state c.run.new.self.separator) _
+    (g.E.HasKind.kind c.in-Err.error) c.in-Err.ensures.ran in
+    λ r. enough_ran (inv.1 r) below _ _ (omega (arith, inv.2.still_missing)) _
+    (search rules depth 1) element _ (search rules depth 1)
 
 pub returns-in-Err-clause-ran : goal.returns-in-Err-clause-ran
 returns-in-Err-clause-ran g c =
     let inv = c.links.invariant in
-    let below = some_room _ _ _ _ _ inv.3 (λ e. search rules depth 1) in
-    inl (
-      inv.0,
-      _,
-      _,
-      inv.1,
-      inr (inr (inl (_, _, below, c.in-Err.ensures.ran, few, inv.2, refl))),
-    )
+    let below = some_room _ _ _ _ _ inv.2 (λ e. search rules depth 1) in
+    let element = only_error g.P.Parser.does g.S.Parser.does g.I.Stream.reading g.E.HasKind.form
+    _ _
+    (g.P.Parser.state c.run.new.self.parser, g.S.Parser.state c.run.new.self.separator) _
+    (g.E.HasKind.kind c.in-Err.error) c.in-Err.ensures.ran in
+    λ r. failed_ran (inv.1 r) below _ _ _ few element
   where
-    few : g.E.HasKind.kind c.in-Err.error ≡ backtrack → length c.links.invariant.0 < c.args.missing
+    few : g.E.HasKind.kind c.in-Err.error ≡ backtrack → c.links.invariant.0 < c.args.missing
     few e = elim c.else-missing-eq0.branch [
       | else-missing-eq0-via-then-missing-eq0+else-is_backtrack w ↦ search rules depth 1
-      | else-missing-eq0-via-else-missing-eq0 w ↦ omega (arith, c.links.invariant.3.still_missing)
+      | else-missing-eq0-via-else-missing-eq0 w ↦ omega (arith, c.links.invariant.2.still_missing)
     ]
 
 pub links-preserved : goal.links-preserved
 links-preserved g c =
     let inv = c.links.invariant in
-    let form = g.E.HasKind.form in
-    let told = tried_link (Ran g.I.Stream.reading g.P.Parser.does form)
-    (Ran g.I.Stream.reading g.S.Parser.does form)
-    (g.P.Parser.state c.links.link.parser, g.S.Parser.state c.links.link.separator)
-    (g.I.Stream.view c.links.input) c.in-Ok-Some.field-0
-    (g.P.Parser.state c.run.new.self.parser, g.S.Parser.state c.run.new.self.separator)
-    (g.I.Stream.view c.run.new.input) (c.in-Ok-Some._separator, c.in-Ok-Some.output)
-    c.in-Ok-Some.field-0-is c.in-Ok-Some.ensures.ran in
-    let link = LinkRuns (Ran g.I.Stream.reading g.P.Parser.does form)
-    (Ran g.I.Stream.reading g.S.Parser.does form) in (
-      inv.0 ++ (c.in-Ok-Some.output ∷ []),
-      record {
-        runs = FoldsTo-push (λ p o q. IsItem link p o q) _ inv.0 _ c.in-Ok-Some.output _ inv.1.runs
-            told;
-      },
-      record {
-        taken = FoldsTo-push g.C.Accumulate.accumulator.takes _ inv.0 _ c.in-Ok-Some.output _
-            inv.2.taken (search rules depth 1);
-      },
-      room_behind_more _ _ _ _ _ _ _ _ inv.3 (λ e. search rules depth 1)
-          c.saturating_sub-missing.ensures (search rules depth 1)
-          (length-append inv.0 (c.in-Ok-Some.output ∷ [])),
-      is_end_of_trans c.in-Ok-Some.ensures.ends inv.4,
+    let below = some_room _ _ _ _ _ inv.2 (λ e. search rules depth 1) in
+    let element = only_some g.P.Parser.does g.S.Parser.does g.I.Stream.reading g.E.HasKind.form
+    _ _ _ _ _ _ c.in-Ok-Some.field-0-is c.in-Ok-Some.ensures.ran in (
+      inv.0 + 1,
+      λ r. collected_more (inv.1 r) below _ _ _ element _ _ (search rules depth 1, refl),
+      room_behind_more _ _ _ _ _ _ _ _ inv.2 (λ e. search rules depth 1)
+          c.saturating_sub-missing.ensures (search rules depth 1) refl,
       c.in-Ok-Some.ensures.again.0,
       c.in-Ok-Some.ensures.again.1,
     )

@@ -1,5 +1,5 @@
 use Rattle.std.proofs.Common.{rules}
-use Rattle.winnow_separated.specs.Covers.Folds.{foldr1_fails, foldr1_ran, pairs_ran}
+use Rattle.winnow_separated.proofs.FoldLemmas.{foldr1_fails, foldr1_ran, pairs_ran}
 use Rattle.winnow_separated.proofs.combinator.impls.separated_foldr1.SeparatedFoldr1Parser.parse_next.Goals as goal
 
 pub returns-in_err-links-clause-ran : goal.returns-in_err-links-clause-ran
