@@ -1,2 +1,3 @@
 mod RecoverableParseLemmas
+mod RecoveryLemmas
 mod RetryLemmas

@@ -3,16 +3,14 @@
 
 ghost use Rattle.std.specs.Prelude.{◌≡◌, true};
 ghost use Rattle.stream_errors.specs.Form.{answer_by};
-ghost use Rattle.streams.specs.Input.{IsEndOf};
 ghost use Rattle.winnow_recovery.specs.Recovery.{recovery_of};
-ghost use Rattle.winnow_recovery.specs.ResumeAfter.{ResumeRuns};
 ghost use Rattle.winnow_recovery.specs.ResumeAfter.{resume_after_parser, resume_after_recover};
 ghost use Rattle.parser_definitions.specs.Terms.{no_claim, nothing_claimed};
 ghost use Rattle.std.proofs.Common.{refl};
 ghost use Rattle.parser_definitions.specs.Does.{Ran, wider_law};
 ghost use Rattle.parser_definitions.specs.Equal.{AlikeOptions};
 ghost use Rattle.parser_definitions.specs.Recover.{NeverAsks, Recovery};
-ghost use Rattle.parser_definitions.specs.Resume.{ResumeAfterDoes, resume_after_law};
+ghost use Rattle.parser_definitions.specs.Resume.{ResumeAfterDoes, ResumeDoes, resume_after_law};
 
 use crate::combinator::{can_recover, recover_from};
 use std::marker::PhantomData;
@@ -121,11 +119,9 @@ fn resume<
     requires recover { R.can_parse recover.old }
     requires records { I.supports_recovery ≡ true }
     ensures again { P.can_parse parser.new × R.can_parse recover.new }
-    ensures ran { ResumeRuns E.recoverable_grows (Ran I.reading P.does E.form)
-        (Ran I.reading R.does E.form)
+    ensures ran { Ran I.reading (ResumeDoes E.recoverable_grows P.does R.does) E.form
         (P.state parser.old, R.state recover.old) (I.view input.old)
         (answer_by E.kind result) (P.state parser.new, R.state recover.new) (I.view input.new) }
-    ensures ends { IsEndOf I.reading (I.view input.new) (I.view input.old) }
 {
     let start = input.checkpoint();
     match parser.parse_next(input) {

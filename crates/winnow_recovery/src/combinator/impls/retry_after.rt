@@ -3,15 +3,13 @@
 
 ghost use Rattle.std.specs.Prelude.{◌≡◌, true};
 ghost use Rattle.stream_errors.specs.Form.{answer_by};
-ghost use Rattle.streams.specs.Input.{IsEndOf};
 ghost use Rattle.winnow_recovery.specs.Recovery.{recovery_of};
-ghost use Rattle.winnow_recovery.specs.RetryAfter.{RetryRuns, retry_after_parser};
-ghost use Rattle.winnow_recovery.specs.RetryAfter.{retry_after_recover};
+ghost use Rattle.winnow_recovery.specs.RetryAfter.{retry_after_parser, retry_after_recover};
 ghost use Rattle.parser_definitions.specs.Terms.{no_claim, nothing_claimed};
 ghost use Rattle.std.proofs.Common.{refl};
 ghost use Rattle.parser_definitions.specs.Does.{Ran, wider_law};
 ghost use Rattle.parser_definitions.specs.Recover.{NeverAsks, Recovery};
-ghost use Rattle.parser_definitions.specs.Retry.{RetryAfterDoes, retry_after_law};
+ghost use Rattle.parser_definitions.specs.Retry.{RetryAfterDoes, RetryDoes, retry_after_law};
 
 use crate::combinator::{can_recover, recover_from};
 use std::marker::PhantomData;
@@ -116,11 +114,10 @@ fn retry<
     requires recover { R.can_parse recover.old }
     requires records { I.supports_recovery ≡ true }
     ensures again { P.can_parse parser.new × R.can_parse recover.new }
-    ensures ran { RetryRuns E.recoverable_grows (Ran I.reading P.does E.form)
-        (Ran I.reading R.does E.form)
+    ensures ran { Ran I.reading
+        (λ at. RetryDoes E.recoverable_grows P.does R.does at) E.form
         (P.state parser.old, R.state recover.old) (I.view input.old)
         (answer_by E.kind result) (P.state parser.new, R.state recover.new) (I.view input.new) }
-    ensures ends { IsEndOf I.reading (I.view input.new) (I.view input.old) }
 {
     'tries: loop {
         let start = input.checkpoint();
