@@ -1,10 +1,9 @@
 -- At most one item of a kind is at the start of the characters, and it consumes some.
-use Rattle.std.specs.Prelude.{◌≡◌, ◌<◌, ℕ, List, ◌∷◌, ◌++◌, Option, Some, Ok}
-use Rattle.std.proofs.Common.{refl, sym, ◌∙◌, ap, subst, inl, arith}
+use Rattle.std.specs.Prelude.{◌≡◌, ◌<◌, ℕ, List, ◌∷◌, ◌++◌, Option, Some}
+use Rattle.std.proofs.Common.{sym, ◌∙◌, ap, subst, arith}
 use Rattle.streams.specs.Equal.{same_first, same_others}
-use Rattle.streams.specs.Input.{Input}
 use Rattle.streams.specs.Text.{text_reading, width}
-use Rattle.winnow_expression_trees.specs.Items.{AreItems, ItemRuns, Items, left_at}
+use Rattle.winnow_expression_trees.specs.Items.{AreItems}
 use Rattle.format_calculator.specs.Calculator.{CharItem, NumberItem, behind, is_white}
 use Rattle.format_calculator.specs.Calculator.Laws.{char_splits, number_splits}
 
@@ -26,6 +25,8 @@ number_items = record {
   one = λ tokens o p r q (some, is, fits, e) (some2, was, fits2, f). (is ∙ sym was, e ∙ sym f);
   some = λ tokens o r is. let (c, front, split) = number_splits tokens r o is in
       fewer tokens r front c split;
+  front = λ tokens o r is. let (c, front, split) = number_splits tokens r o is in
+      (c ∷ front, split);
 }
 
 pub char_items : {O : Type 0} (meant : ℕ → Option O) → AreItems width (CharItem meant)
@@ -38,8 +39,6 @@ char_items meant = record {
       );
   some = λ tokens o r is. let (c, front, split) = char_splits meant tokens r o is in
       fewer tokens r front c split;
+  front = λ tokens o r is. let (c, front, split) = char_splits meant tokens r o is in
+      (c ∷ front, split);
 }
-
-pub item_some : {O : Type 0} (item : Items ℕ O) (i : Input ℕ) (o : O) (rest : List ℕ)
-    → item i.left.tokens o rest → ItemRuns item i (Ok o) (left_at i rest)
-item_some item i o rest is = inl (o, rest, is, refl, refl)

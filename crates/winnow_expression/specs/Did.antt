@@ -9,27 +9,18 @@ use Rattle.parser_definitions.specs.Outcome.{Does, Outcome, Setting, asks, backs
 use Rattle.parser_definitions.specs.Outcome.{setting_of, took, wants}
 use Rattle.parser_definitions.specs.Then.{ComesOf}
 use Rattle.parser_definitions.specs.Then.Steps.{hands_on}
-use Rattle.winnow_core.specs.Covers.{Covers, at_setting}
 use Rattle.winnow_core.specs.Runs.{Runs}
 pub mod Parts
 pub mod Steps
 pub mod Trees
 
--- A call with an outcome that the definition allows. Nothing is said of how the rest is related to
--- the input, but that the setting is the same. Every call of a parser is one (`Ran`).
+-- A call with an outcome that the definition allows, in a setting that stays. Every call of a
+-- parser
+-- is one, and leaves an end of the input (`Ran`).
 abbrev pub Did : {S T O : Type 0} → Does S T O → ErrorForm → Runs S T O
 Did does form s i answer t j =
     (j.status.cut ≡ i.status.cut) × (j.left.possible ≡ i.left.possible)
     × does (setting_of form i) s (left_of i) (outcome_of answer (t, left_of j))
-
-pub did_covers : {S T O : Type 0} (does : Does S T O) (at : Setting)
-    → Covers at (Did does at.form) does
-did_covers does at = record {
-  covers = λ s i answer t j here (more, possible, did). (
-    subst (λ z. does z s (left_of i) (outcome_of answer (t, left_of j))) (at_setting here) did,
-    record { more = more ∙ here.more; possible = possible ∙ here.possible },
-  );
-}
 
 -- ---- inputs of a setting
 

@@ -3,6 +3,7 @@ pub mod Calls
 pub mod Covers
 pub mod Definition
 pub mod Did
+pub mod Ending
 pub mod Expression
 pub mod Folds
 pub mod Grammar

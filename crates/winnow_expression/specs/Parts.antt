@@ -1,11 +1,15 @@
 -- The expression that four parts and their folds make.
-use Rattle.std.specs.Prelude.{ℕ, List}
+use Rattle.std.specs.Prelude.{ℕ, ℤ, List}
+use Rattle.parser_definitions.specs.Does.{Ran}
+use Rattle.parser_definitions.specs.Expression.{ExpressionDoes}
 use Rattle.parser_definitions.specs.Outcome.{Does}
 use Rattle.stream_errors.specs.Form.{Answer, ErrorForm, assert_kind}
 use Rattle.streams.specs.Input.{Input}
 use Rattle.streams.specs.Kind.{Kind}
+use Rattle.streams.specs.Reading.{Reading}
 use Rattle.winnow_core.specs.Runs.{Runs}
-use Rattle.winnow_expression.specs.Did.{Did}
+use Rattle.winnow_expression.specs.Definition.{operators}
+use Rattle.winnow_expression.specs.Ending.{Ending}
 use Rattle.winnow_expression.specs.Folds.{DoesBinary, DoesUnary}
 use Rattle.winnow_expression.specs.Grammar.{Grammar, folding, grammar}
 use Rattle.winnow_expression.specs.Places.{FirstRuns, NextRuns}
@@ -27,9 +31,17 @@ parts_grammar units refusal operand prefix postfix infix_ before behind between 
     (folding before between units refusal)
 
 -- ... where the parts are called as their definitions say, with errors of a form.
-abbrev pub did_grammar : {S1 S2 S3 S4 T V F G H : Type 0} → (List T → ℕ) → ErrorForm → Does S1 T V
+abbrev pub did_grammar : {S1 S2 S3 S4 T L V F G H : Type 0} → Reading T L → ErrorForm → Does S1 T V
     → Does S2 T (Prefix F) → Does S3 T (Postfix G) → Does S4 T (Infix H) → DoesUnary F T V
     → DoesUnary G T V → DoesBinary H T V → Grammar (S1 × S2) (S3 × S4) T V F G H
-did_grammar units form d1 d2 d3 d4 before behind between =
-    parts_grammar units (assert_kind form) (Did d1 form) (Did d2 form) (Did d3 form) (Did d4 form)
-    (before form) (behind form) (between form)
+did_grammar reading form d1 d2 d3 d4 before behind between =
+    parts_grammar reading.units (assert_kind form) (Ran reading d1 form) (Ran reading d2 form)
+    (Ran reading d3 form) (Ran reading d4 form) (before form) (behind form) (between form)
+
+-- The definition of the expression that they make. What a part leaves is an end of the input.
+abbrev pub PartsDo : {S1 S2 S3 S4 T L V F G H : Type 0} → Reading T L → Does S1 T V
+    → Does S2 T (Prefix F) → Does S3 T (Postfix G) → Does S4 T (Infix H) → DoesUnary F T V
+    → DoesUnary G T V → DoesBinary H T V → Does ((S1 × S2) × (S3 × S4) × ℤ) T V
+PartsDo reading d1 d2 d3 d4 before behind between =
+    ExpressionDoes (operators reading.units before behind between) (Ending reading d1)
+    (Ending reading d2) (Ending reading d3) (Ending reading d4)

@@ -3,16 +3,19 @@ use Rattle.std.specs.Prelude.{◌≡◌, ◌≤◌, ◌<◌, ◌⊎◌, ℕ, ℤ
 use Rattle.std.proofs.Common.{refl, sym, ◌∙◌, ap, subst, inl, inr, arith}
 use Rattle.stream_errors.specs.Form.{Answer}
 use Rattle.stream_errors.specs.Form.Inversion.{ok_is_err}
-use Rattle.streams.specs.Input.{Input, back_at}
+use Rattle.streams.specs.Input.{Input, IsEndOf, back_at, is_end_of_back, is_end_of_trans}
+use Rattle.streams.specs.Input.{same_parts}
 use Rattle.streams.specs.Kind.{Kind, backtrack, memory}
+use Rattle.streams.specs.Reading.{Reading}
 use Rattle.winnow_core.specs.Decided.{EqualResults}
 use Rattle.winnow_core.specs.Decided.Inputs.{both_err, both_ok}
-use Rattle.winnow_core.specs.Runs.{Runs}
+use Rattle.winnow_core.specs.Ends.{back_ends, same_ends, same_units}
+use Rattle.winnow_core.specs.Runs.{LeaveEnds, Runs}
 use Rattle.winnow_expression.specs.Grammar.{Grammar, folding}
 use Rattle.winnow_expression.specs.Operators.{neither_power}
 use Rattle.winnow_expression.specs.Parts.{parts_grammar}
 use Rattle.winnow_expression.specs.Places.{FirstRuns, NextRuns, SomeRuns}
-use Rattle.winnow_expression.specs.Units.{units_left}
+use Rattle.winnow_expression.specs.Units.{ends_less, units_left}
 use Rattle.winnow_expression.specs.declared.combinator.operators.Infix.{Infix}
 use Rattle.winnow_expression.specs.declared.combinator.operators.Postfix.{Postfix}
 use Rattle.winnow_expression.specs.declared.combinator.operators.Prefix.{Prefix}
@@ -220,17 +223,38 @@ module _ {S1 S2 S3 S4 T V F G H : Type 0} (units : List T → ℕ) (refusal : Ki
         (Ok y) s.1 s.1 r q tt tt;
   }
 
-module _ {S1 S2 S3 S4 T V F G H : Type 0} (units : List T → ℕ) (refusal : Kind)
+-- an end with as many units is the input
+at_rest : {T L : Type 0} (reading : Reading T L) (i j : Input T) → IsEndOf reading j i
+    → j.status ≡ i.status → units_left reading.units j ≡ units_left reading.units i → j ≡ i
+at_rest reading i j p status same =
+    let none : reading.units p.ends.dropped ≡ 0 =
+    omega (
+      arith,
+      same,
+      ap reading.units p.ends.tokens,
+      reading.units_add p.ends.dropped j.left.tokens,
+    ) in
+    same_parts j i (same_units reading j i p same)
+    (p.ends.place ∙ ap (λ n. reading.advance i.left.place n) none
+    ∙ reading.advance_none i.left.place) p.ends.possible status
+
+-- what a part leaves that is called from the start again
+back_end : {T L : Type 0} {reading : Reading T L} (i m j : Input T) → IsEndOf reading m i
+    → IsEndOf reading j (back_at i.left m) → IsEndOf reading j i
+back_end i m j first then_ = is_end_of_trans then_ (is_end_of_back refl first)
+
+module _ {S1 S2 S3 S4 T L V F G H : Type 0} (reading : Reading T L) (refusal : Kind)
     (operand : Runs S1 T V) (prefix : Runs S2 T (Prefix F)) (postfix : Runs S3 T (Postfix G))
     (infix_ : Runs S4 T (Infix H)) (before : F → Input T → V → Answer V → Input T → Type 0)
     (behind : G → Input T → V → Answer V → Input T → Type 0)
     (between : H → Input T → V → V → Answer V → Input T → Type 0) (alike : V → V → Type 0)
-    (s1 : S1) (s2 : S2)
+    (eo : LeaveEnds reading operand) (ep : LeaveEnds reading prefix)
+    (eq : LeaveEnds reading postfix) (ei : LeaveEnds reading infix_) (s1 : S1) (s2 : S2)
     (s3 : S3) (s4 : S4)
     (pr : Premises alike operand prefix postfix infix_ behind
-    (folding before between units refusal) s1 s2 s3 s4) where
+    (folding before between reading.units refusal) s1 s2 s3 s4) where
   abbrev parts : Grammar (S1 × S2) (S3 × S4) T V F G H
-  parts = whole units refusal operand prefix postfix infix_ before behind between
+  parts = whole reading.units refusal operand prefix postfix infix_ before behind between
 
   abbrev states : (S1 × S2) × (S3 × S4)
   states = ((s1, s2), (s3, s4))
@@ -253,7 +277,7 @@ module _ {S1 S2 S3 S4 T V F G H : Type 0} (units : List T → ℕ) (refusal : Ki
       (pair_same t (s1, s2) k.0 l.0, l.1 ∙ k.1)
 
   keeps_next : (i j : Input T) (a : Answer (Next G H)) (t : S3 × S4)
-      → NextRuns units postfix infix_ (s3, s4) i a t j → NotMemory a
+      → NextRuns reading.units postfix infix_ (s3, s4) i a t j → NotMemory a
       → (t ≡ (s3, s4)) × (j.status ≡ i.status)
   keeps_next i j a t (inl (none, e, kept, place)) other = (kept, ap (λ z. z.status) place)
   keeps_next i j a t (inr (some, inl (p, r, kept, e))) other =
@@ -285,38 +309,45 @@ module _ {S1 S2 S3 S4 T V F G H : Type 0} (units : List T → ℕ) (refusal : Ki
       let l = pr.infixes.keeps (back_at i.left m) n (Err backtrack) s4 q not_back in
       place ∙ back_is i n (l.1 ∙ k.1)
 
-  first_falls : (i j : Input T) (x : First V F)
-      → FirstRuns operand prefix (s1, s2) i (Ok x) (s1, s2) j
-      → (units_left units j ≤ units_left units i)
-      × (units_left units j ≡ units_left units i → j ≡ i)
-  first_falls i j x (inl (v, r, kept, e)) = pr.operands_fall i j v s1 r
-  first_falls i j x (inr (inl (k, r, unlike, kept, e))) = ok_is_err refl e
-  first_falls i j x (inr (inr (inl (m, p, r, q, e)))) =
-      let k = pr.operands.keeps i m (Err backtrack) s1 r not_back in
-      let (less, same) = pr.prefixes_fall (back_at i.left m) j p s2 q in
-      (less, λ e. same e ∙ back_is i m k.1)
-  first_falls i j x (inr (inr (inr (m, k, r, q, e)))) = ok_is_err refl e
+  -- what it leaves has no more units, and is the input if it has as many
+  abbrev Fallen : Input T → Input T → Type 0
+  Fallen i j = (units_left reading.units j ≤ units_left reading.units i)
+      × (units_left reading.units j ≡ units_left reading.units i → j ≡ i)
 
-  next_falls : (i j : Input T) (x : Next G H) → NextStep parts states i x j
-      → (units_left units j ≤ units_left units i)
-      × (units_left units j ≡ units_left units i → j ≡ i)
-  next_falls i j x (inl (none, e, kept, place)) =
-      (omega (arith, ap (units_left units) place), λ _. place)
-  next_falls i j x (inr (some, inl (p, r, kept, e))) = pr.postfixes_fall i j p s3 r
-  next_falls i j x (inr (some, inr (inl (k, r, unlike, kept, e)))) = ok_is_err refl e
-  next_falls i j x (inr (some, inr (inr (m, r, inl (o, q, e))))) =
-      let k = pr.postfixes.keeps i m (Err backtrack) s3 r not_back in
-      let (less, same) = pr.infixes_fall (back_at i.left m) j o s4 q in
-      (less, λ e. same e ∙ back_is i m k.1)
-  next_falls i j x (inr (some, inr (inr (m, r, inr (inl (k, q, unlike, e)))))) = ok_is_err refl e
-  next_falls i j x (inr (some, inr (inr (m, r, inr (inr (n, q, place, e)))))) =
-      let k = pr.postfixes.keeps i m (Err backtrack) s3 r not_back in
-      let l = pr.infixes.keeps (back_at i.left m) n (Err backtrack) s4 q not_back in
-      let at = place ∙ back_is i n (l.1 ∙ k.1) in
-      (omega (arith, ap (units_left units) at), λ _. at)
+  fallen : (i j : Input T) → IsEndOf reading j i → j.status ≡ i.status → Fallen i j
+  fallen i j end status = (ends_less reading j i end, at_rest reading i j end status)
+
+  first_falls : (i j : Input T) (x : First V F)
+      → FirstRuns operand prefix (s1, s2) i (Ok x) (s1, s2) j → Fallen i j
+  first_falls i j x run =
+      fallen i j (ends run) (keeps_first i j (Ok x) (s1, s2) run tt).1
+    where
+      ends : FirstRuns operand prefix (s1, s2) i (Ok x) (s1, s2) j → IsEndOf reading j i
+      ends (inl (v, r, kept, e)) = eo s1 i (Ok v) s1 j r
+      ends (inr (inl (k, r, unlike, kept, e))) = eo s1 i (Err k) s1 j r
+      ends (inr (inr (inl (m, p, r, q, e)))) = back_end i m j (eo s1 i (Err backtrack) s1 m r)
+          (ep s2 (back_at i.left m) (Ok p) s2 j q)
+      ends (inr (inr (inr (m, k, r, q, e)))) = back_end i m j (eo s1 i (Err backtrack) s1 m r)
+          (ep s2 (back_at i.left m) (Err k) s2 j q)
+
+  next_falls : (i j : Input T) (x : Next G H) → NextStep parts states i x j → Fallen i j
+  next_falls i j x step =
+      fallen i j (ends step) (keeps_next i j (Ok x) (s3, s4) step tt).1
+    where
+      ends : NextStep parts states i x j → IsEndOf reading j i
+      ends (inl (none, e, kept, place)) = same_ends reading i j place
+      ends (inr (some, inl (p, r, kept, e))) = eq s3 i (Ok p) s3 j r
+      ends (inr (some, inr (inl (k, r, unlike, kept, e)))) = eq s3 i (Err k) s3 j r
+      ends (inr (some, inr (inr (m, r, inl (o, q, e))))) =
+          back_end i m j (eq s3 i (Err backtrack) s3 m r) (ei s4 (back_at i.left m) (Ok o) s4 j q)
+      ends (inr (some, inr (inr (m, r, inr (inl (k, q, unlike, e)))))) =
+          back_end i m j (eq s3 i (Err backtrack) s3 m r) (ei s4 (back_at i.left m) (Err k) s4 j q)
+      ends (inr (some, inr (inr (m, r, inr (inr (n, q, place, e)))))) =
+          back_ends reading i n j place (back_end i m n (eq s3 i (Err backtrack) s3 m r)
+          (ei s4 (back_at i.left m) (Err backtrack) s4 n q))
 
   neither_moves : (i j : Input T) (o : Infix H) (p : ℤ) → NextStep parts states i (infix_read o) j
-      → neither_power o ≡ Some p → units_left units j < units_left units i
+      → neither_power o ≡ Some p → units_left reading.units j < units_left reading.units i
   neither_moves i j o p (inl (none, e, kept, place)) is = absurd (cc)
   neither_moves i j o p (inr (some, inl (x, r, kept, e))) is = absurd (cc)
   neither_moves i j o p (inr (some, inr (inl (k, r, unlike, kept, e)))) is = ok_is_err refl e
@@ -336,7 +367,7 @@ module _ {S1 S2 S3 S4 T V F G H : Type 0} (units : List T → ℕ) (refusal : Ki
         pr.operands.decided pr.prefixes.decided;
     next_keeps = λ i j a t r n. (keeps_next i j a t r n).0;
     next_decided = next_decided (FoldAlike alike behind) (FoldsAlike alike between) postfix infix_
-        s3 s4 pr.postfixes.decided pr.infixes.decided units;
+        s3 s4 pr.postfixes.decided pr.infixes.decided reading.units;
     nothing = nothing_stays;
     back = λ i j x r. back_is i j (keeps_next i j (Ok x) (s3, s4) r tt).1;
     prefix_falls = λ i j p f r. (first_falls i j (prefix_read p f) r).0;

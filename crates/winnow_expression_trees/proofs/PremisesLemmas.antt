@@ -2,12 +2,14 @@
 use Rattle.std.specs.Prelude.{◌≡◌, ◌⊎◌, ℕ, Ok, Err}
 use Rattle.std.specs.declared.ops.Range.{Range}
 use Rattle.std.proofs.Common.{refl, sym, subst, inl, inr, ◌∙◌}
-use Rattle.streams.specs.Input.{Input}
+use Rattle.streams.specs.Input.{Input, is_end_of_refl}
 use Rattle.streams.specs.Kind.{Kind, backtrack, cut, incomplete, memory}
+use Rattle.streams.specs.Reading.{Reading}
 use Rattle.stream_errors.specs.Form.{Answer, ErrorForm}
 use Rattle.winnow_core.specs.Decided.{EqualResults}
 use Rattle.winnow_core.specs.Decided.Inputs.{both_err, both_ok}
 use Rattle.winnow_core.specs.Runs.{Runs}
+use Rattle.parser_definitions.specs.Does.{Ran}
 use Rattle.parser_definitions.specs.Left.{End, left_of}
 use Rattle.parser_definitions.specs.Outcome.{Does, Outcome, Setting, asks, backs, cuts, outcome_of}
 use Rattle.parser_definitions.specs.Outcome.{setting_of, took, wants}
@@ -15,7 +17,8 @@ use Rattle.parser_definitions.specs.Outputs.{Makes, OutputDoes, SpanDoes, WithSp
 use Rattle.parser_definitions.specs.Outputs.{span_of}
 use Rattle.parser_definitions.specs.Then.{ComesOf}
 use Rattle.parser_definitions.specs.Then.Steps.{instead, where_took}
-use Rattle.winnow_expression.specs.Did.{Came, Did, came_by, came_run}
+use Rattle.winnow_expression.specs.Did.{Came, came_by, came_run}
+use Rattle.winnow_expression.specs.Ending.{LeavesEnd, ran_ending}
 use Rattle.winnow_expression_trees.specs.Premises.{IsStateless, NotMemory}
 use Rattle.winnow_expression_trees.specs.Premises.Laws.{AlikeWithSpan, stateless_within}
 use Rattle.winnow_expression_trees.proofs.Plain.{not_memory}
@@ -60,12 +63,12 @@ module _ {S T O U : Type 0} {run : Runs S T O} {s : S} {alike : O → O → Type
           (both_err also e f like, place)
 
 -- a call with such an outcome
-output_ran : {S T O U : Type 0} (makes : Makes T O U) (does : Does S T O) (form : ErrorForm)
-    (s : S) (i : Input T) (a : Answer U) (t : S) (j : Input T)
-    → Did (OutputDoes makes does) form s i a t j → NotMemory a
-    → MakesOutput (λ i o j u. makes (left_of i) o (left_of j) u) (Did does form) s i a t j
-output_ran {S} {T} {O} {U} makes does form s i a t j (more, possible, (x, d, is)) other =
-    let (u, k, run, same) = came_run at Made a t j more possible (by x d is) in
+output_ran : {S T L O U : Type 0} (reading : Reading T L) (makes : Makes T O U) (does : Does S T O)
+    (form : ErrorForm) (s : S) (i : Input T) (a : Answer U) (t : S) (j : Input T)
+    → Ran reading (OutputDoes makes does) form s i a t j → NotMemory a
+    → MakesOutput (λ i o j u. makes (left_of i) o (left_of j) u) (Ran reading does form) s i a t j
+output_ran {S} {T} {O = O} {U} reading makes does form s i a t j ran other =
+    let (u, k, run, same) = came_run at Made a t j ran.1 ran.2 (by ran.3.0 ran.3.1 ran.3.2) in
     let (e, f) = same (not_memory a other) in
     subst (λ z. Made a z j) e (subst (λ n. Made a u n) f run)
   where
@@ -74,35 +77,41 @@ output_ran {S} {T} {O} {U} makes does form s i a t j (more, possible, (x, d, is)
 
     Made : Answer U → S → Input T → Type 0
     Made a t j =
-        MakesOutput (λ i o j u. makes (left_of i) o (left_of j) u) (Did does form) s i a t j
+        MakesOutput (λ i o j u. makes (left_of i) o (left_of j) u) (Ran reading does form) s i a t
+        j
+
+    ends : {y : Outcome (End S T) U} → outcome_of a (t, left_of j) ≡ y
+        → LeavesEnd reading at (left_of i) y
+    ends is = subst (λ y. LeavesEnd reading at (left_of i) y) is
+        (ran_ending reading (OutputDoes makes does) form s i a t j ran).1
 
     by : (x : Outcome (End S T) O) → does at s (left_of i) x
         → ComesOf {Q = S} (where_took instead (made makes)) at s (left_of i) x
         (outcome_of a (t, left_of j)) → Came at Made (outcome_of a (t, left_of j))
     by (took o e) d (u, m, is) =
-        came_by at Made (Ok u) e is (inl (o, u, (refl, refl, d), m, refl))
+        came_by at Made (Ok u) e is (inl (o, u, (ends is, refl, refl, d), m, refl))
     by (backs e) d is = came_by at Made (Err backtrack) e is
-        (inr (backtrack, (refl, refl, d), refl))
-    by (cuts e) d is = came_by at Made (Err cut) e is (inr (cut, (refl, refl, d), refl))
+        (inr (backtrack, (ends is, refl, refl, d), refl))
+    by (cuts e) d is = came_by at Made (Err cut) e is (inr (cut, (ends is, refl, refl, d), refl))
     by (asks need e) d is = came_by at Made (Err (incomplete need)) e is
-        (inr (incomplete need, (refl, refl, d), refl))
+        (inr (incomplete need, (ends is, refl, refl, d), refl))
     by wants d is = came_by at Made (Err memory) (s, left_of i) is
-        (inr (memory, (refl, refl, d), refl))
+        (inr (memory, (is_end_of_refl reading i, refl, refl, d), refl))
 
-module _ {S T O : Type 0} (does : Does S T O) (form : ErrorForm) (s : S)
+module _ {S T L O : Type 0} (reading : Reading T L) (does : Does S T O) (form : ErrorForm) (s : S)
     (alike : O → O → Type 0) where
-  pub span_stateless : IsStateless alike (Did does form) s
-      → IsStateless (λ u v. u ≡ v) (Did (SpanDoes does) form) s
+  pub span_stateless : IsStateless alike (Ran reading does form) s
+      → IsStateless (λ u v. u ≡ v) (Ran reading (SpanDoes does) form) s
   span_stateless c =
-      stateless_within (output_ran (λ w o end u. u ≡ span_of w end) does form s)
+      stateless_within (output_ran reading (λ w o end u. u ≡ span_of w end) does form s)
       (output_stateless (λ i (o : O) j span. span ≡ span_of (left_of i) (left_of j))
       (λ i j o p u v like x y. x ∙ sym y) c)
 
-  pub with_span_stateless : IsStateless alike (Did does form) s
-      → IsStateless (AlikeWithSpan alike) (Did (WithSpanDoes does) form) s
+  pub with_span_stateless : IsStateless alike (Ran reading does form) s
+      → IsStateless (AlikeWithSpan alike) (Ran reading (WithSpanDoes does) form) s
   with_span_stateless c =
       stateless_within
-      (output_ran (λ w o end u. (u.0 ≡ o) × (u.1 ≡ span_of w end)) does form s)
+      (output_ran reading (λ w o end u. (u.0 ≡ o) × (u.1 ≡ span_of w end)) does form s)
       (output_stateless
       (λ i (o : O) j (both : O × Range ℕ). (both.0 ≡ o) ×
       (both.1 ≡ span_of (left_of i) (left_of j)))

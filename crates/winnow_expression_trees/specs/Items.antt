@@ -1,6 +1,6 @@
 -- Expressions whose parts read items. For each part, the remaining tokens determine whether they
 -- start with an item of its own, which item, and the rest after it. Folds give values.
-use Rattle.std.specs.Prelude.{◌≡◌, ◌<◌, ◌⊎◌, ℕ, ℤ, Bool, List, Ok, Err}
+use Rattle.std.specs.Prelude.{◌≡◌, ◌<◌, ◌⊎◌, ◌++◌, ℕ, ℤ, Bool, List, Ok, Err}
 use Rattle.streams.specs.Input.{Input}
 use Rattle.streams.specs.Kind.{backtrack}
 use Rattle.stream_errors.specs.Form.{Answer}
@@ -54,11 +54,13 @@ ItemDoes {T = T} {O} item at s w y =
     × (y ≡ took o (s, record w { tokens = rest })))
     ⊎ (NoItem item w.tokens × (y ≡ backs (s, w)))
 
--- At most one item begins at an offset, and it has some units.
+-- At most one item begins at an offset, and it is a prefix of the tokens that has some units.
 pub record AreItems {T O : Type 0} (units : List T → ℕ) (item : Items T O) : Type 0 where
   pub one : (tokens : List T) (o p : O) (r q : List T) → item tokens o r → item tokens p q
       → (o ≡ p) × (r ≡ q)
   pub some : (tokens : List T) (o : O) (r : List T) → item tokens o r → units r < units tokens
+  pub front : (tokens : List T) (o : O) (r : List T) → item tokens o r
+      → (front : List T) × (tokens ≡ front ++ r)
 
 -- The reading where an operand is expected: an operand, or, without an operand, a prefix.
 abbrev pub FirstItems : {T V F : Type 0} → Items T V → Items T (Prefix F) → List T → First V F

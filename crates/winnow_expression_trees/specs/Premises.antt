@@ -1,5 +1,5 @@
 -- Requirements on the parts and the folds of an expression.
-use Rattle.std.specs.Prelude.{◌≡◌, ◌<◌, ◌≤◌, ℕ, ℤ, List, Some, Ok, Err}
+use Rattle.std.specs.Prelude.{◌≡◌, ◌<◌, ℤ, Some, Ok, Err}
 use Rattle.streams.specs.Input.{Input}
 use Rattle.streams.specs.Kind.{memory}
 use Rattle.stream_errors.specs.Form.{Answer}
@@ -52,13 +52,6 @@ pub record IsStateless {S T O : Type 0} (alike : O → O → Type 0) (run : Runs
   pub decided : (i j k : Input T) (a b : Answer O) (t u : S) → run s i a t j → run s i b u k
       → NotMemory a → NotMemory b → EqualResults alike a b × (j ≡ k)
 
--- An output of a part in the state `s` leaves no more units than there were, and all of the input
--- if no fewer.
-abbrev pub Falls : {S T O : Type 0} → (List T → ℕ) → Runs S T O → S → Type 0
-Falls {S} {T} {O} units run s =
-    (i j : Input T) (o : O) (t : S) → run s i (Ok o) t j
-    → (units_left units j ≤ units_left units i) × (units_left units j ≡ units_left units i → j ≡ i)
-
 -- prefixes of one power with equivalent folds
 abbrev pub AlikePrefix : {F : Type 0} → (F → F → Type 0) → Prefix F → Prefix F → Type 0
 AlikePrefix af p q = (p.0 ≡ q.0) × af p.1 q.1
@@ -68,8 +61,8 @@ abbrev pub AlikePostfix : {G : Type 0} → (G → G → Type 0) → Postfix G �
 AlikePostfix ag p q = (p.0 ≡ q.0) × ag p.1 q.1
 
 -- Requirements on the parts in their states, and on the folds. The operand, the prefix, the postfix
--- and the infix are functions of the input only and do not lengthen it, and an operator that is
--- read as a neither consumes input.
+-- and the infix are functions of the input only, and an operator that is read as a neither consumes
+-- input.
 pub record Premises {S1 S2 S3 S4 T V F G H : Type 0} (alike : V → V → Type 0)
     (operand : Runs S1 T V) (prefix : Runs S2 T (Prefix F)) (postfix : Runs S3 T (Postfix G))
     (infix_ : Runs S4 T (Infix H)) (behind : G → Input T → V → Answer V → Input T → Type 0)
@@ -78,9 +71,5 @@ pub record Premises {S1 S2 S3 S4 T V F G H : Type 0} (alike : V → V → Type 0
   pub prefixes : IsStateless (AlikePrefix (FoldAlike alike folds.before)) prefix s2
   pub postfixes : IsStateless (AlikePostfix (FoldAlike alike behind)) postfix s3
   pub infixes : IsStateless (AlikeInfix (FoldsAlike alike folds.between)) infix_ s4
-  pub operands_fall : Falls folds.units operand s1
-  pub prefixes_fall : Falls folds.units prefix s2
-  pub postfixes_fall : Falls folds.units postfix s3
-  pub infixes_fall : Falls folds.units infix_ s4
   pub neither_moves : (i j : Input T) (o : Infix H) (p : ℤ) (t : S4) → infix_ s4 i (Ok o) t j
       → neither_power o ≡ Some p → units_left folds.units j < units_left folds.units i

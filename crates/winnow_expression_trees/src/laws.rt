@@ -1,15 +1,13 @@
 //! Laws of operator expressions, each proved by a function that does nothing.
 ghost use Rattle.parser_definitions.specs.Does.{Ran};
-ghost use Rattle.parser_definitions.specs.Expression.{ExpressionDoes};
 ghost use Rattle.std.specs.Prelude.{◌≡◌, ◌⊎◌, ℤ, Bool, Err};
 ghost use Rattle.stream_errors.specs.Form.{Answer, assert_kind};
 ghost use Rattle.streams.specs.Input.{Input};
 ghost use Rattle.streams.specs.Kind.{Kind, memory};
-ghost use Rattle.winnow_expression.specs.Definition.{operators};
 ghost use Rattle.winnow_expression.specs.Did.{Did};
 ghost use Rattle.winnow_expression.specs.Expression.{LeveledRuns};
 ghost use Rattle.winnow_expression.specs.Grammar.{folding};
-ghost use Rattle.winnow_expression.specs.Parts.{did_grammar};
+ghost use Rattle.winnow_expression.specs.Parts.{PartsDo, did_grammar};
 ghost use Rattle.winnow_expression_trees.specs.Accepting.{FoldAnswers, accepting, asserting};
 ghost use Rattle.winnow_expression_trees.specs.Alike.{AlikeInfix, AlikeTree};
 ghost use Rattle.winnow_expression_trees.specs.Failure.{EndedBy, RejectedBy, Unmoved};
@@ -42,10 +40,10 @@ pub trait Likeness<O> {
 }
 
 /// States that an expression parses the only tree that respects precedence. The input must
-/// determine the reading of each part, up to equivalent outputs, and a part must not lengthen it.
-/// Folds must give equivalent results for equivalent operands, and leave the input unchanged.
+/// determine the reading of each part, up to equivalent outputs. Folds must give equivalent results
+/// for equivalent operands, and leave the input unchanged.
 ///
-/// Both the parts and the expression are read by their definitions (`does`).
+/// The calls of the parts and of the expression are those of which `parse_next` ensures `ran`.
 ///
 /// Then at most one tree over a prefix of the reading respects precedence. The expression succeeds
 /// if and only if there is one whose folds succeed. It returns the value of that tree, and leaves
@@ -98,40 +96,40 @@ pub fn expression_is_unambiguous<
     A: Likeness<O>,
 >()
     ensures exact { (s : (P.State × Pre.State) × (Post.State × Pix.State) × ℤ)
-        → Premises A.alike (Did P.does E.form) (Did Pre.does E.form) (Did Post.does E.form)
-        (Did Pix.does E.form) (G.folds E.form)
+        → Premises A.alike (Ran I.reading P.does E.form) (Ran I.reading Pre.does E.form)
+        (Ran I.reading Post.does E.form) (Ran I.reading Pix.does E.form) (G.folds E.form)
         (folding (F.folds E.form) (H.folds E.form) I.reading.units (assert_kind E.form))
         s.0.0 s.0.1 s.1.0 s.1.1
         → (i : Input I.Seen) (answer : Answer O)
         (t : (P.State × Pre.State) × (Post.State × Pix.State) × ℤ) (j : Input I.Seen)
-        → Ran I.reading (ExpressionDoes (operators I.reading.units F.folds G.folds H.folds)
-        P.does Pre.does Post.does Pix.does) E.form s i answer t j
-        → IsTheOneTree (did_grammar I.reading.units E.form P.does Pre.does
+        → Ran I.reading (PartsDo I.reading P.does Pre.does Post.does Pix.does F.folds G.folds
+        H.folds) E.form s i answer t j
+        → IsTheOneTree (did_grammar I.reading E.form P.does Pre.does
         Post.does Pix.does F.folds G.folds H.folds) A.alike (s.0, s.1) s.2 i answer (t.0, t.1) j }
     ensures fails { (s : (P.State × Pre.State) × (Post.State × Pix.State) × ℤ)
-        → Premises A.alike (Did P.does E.form) (Did Pre.does E.form) (Did Post.does E.form)
-        (Did Pix.does E.form) (G.folds E.form)
+        → Premises A.alike (Ran I.reading P.does E.form) (Ran I.reading Pre.does E.form)
+        (Ran I.reading Post.does E.form) (Ran I.reading Pix.does E.form) (G.folds E.form)
         (folding (F.folds E.form) (H.folds E.form) I.reading.units (assert_kind E.form))
         s.0.0 s.0.1 s.1.0 s.1.1
         → (i : Input I.Seen) (k : Kind)
         (t : (P.State × Pre.State) × (Post.State × Pix.State) × ℤ) (j : Input I.Seen)
-        → Ran I.reading (ExpressionDoes (operators I.reading.units F.folds G.folds H.folds)
-        P.does Pre.does Post.does Pix.does) E.form s i (Err k) t j → (k ≡ memory → ⊥)
-        → (RejectedBy (did_grammar I.reading.units E.form P.does Pre.does
+        → Ran I.reading (PartsDo I.reading P.does Pre.does Post.does Pix.does F.folds G.folds
+        H.folds) E.form s i (Err k) t j → (k ≡ memory → ⊥)
+        → (RejectedBy (did_grammar I.reading E.form P.does Pre.does
         Post.does Pix.does F.folds G.folds H.folds) (s.0, s.1) s.2 i k j → ⊥)
-        → (Unmoved (did_grammar I.reading.units E.form P.does Pre.does
+        → (Unmoved (did_grammar I.reading E.form P.does Pre.does
         Post.does Pix.does F.folds G.folds H.folds) (s.0, s.1) i → ⊥)
-        → EndedBy (did_grammar I.reading.units E.form P.does Pre.does
+        → EndedBy (did_grammar I.reading E.form P.does Pre.does
         Post.does Pix.does F.folds G.folds H.folds) (s.0, s.1) i k j }
     ensures ended { (s : (P.State × Pre.State) × (Post.State × Pix.State) × ℤ)
-        → Premises A.alike (Did P.does E.form) (Did Pre.does E.form) (Did Post.does E.form)
-        (Did Pix.does E.form) (G.folds E.form)
+        → Premises A.alike (Ran I.reading P.does E.form) (Ran I.reading Pre.does E.form)
+        (Ran I.reading Post.does E.form) (Ran I.reading Pix.does E.form) (G.folds E.form)
         (folding (F.folds E.form) (H.folds E.form) I.reading.units (assert_kind E.form))
         s.0.0 s.0.1 s.1.0 s.1.1
         → (i : Input I.Seen) (k l : Kind) (j n : Input I.Seen)
-        → EndedBy (did_grammar I.reading.units E.form P.does Pre.does
+        → EndedBy (did_grammar I.reading E.form P.does Pre.does
         Post.does Pix.does F.folds G.folds H.folds) (s.0, s.1) i k j
-        → EndedBy (did_grammar I.reading.units E.form P.does Pre.does
+        → EndedBy (did_grammar I.reading E.form P.does Pre.does
         Post.does Pix.does F.folds G.folds H.folds) (s.0, s.1) i l n
         → (k ≡ memory → ⊥) → (l ≡ memory → ⊥) → (k ≡ l) × (j ≡ n) }
 {}
@@ -185,14 +183,14 @@ pub fn tree_is_unique<
     D: Likeness<H>,
 >()
     ensures one { (s : (P.State × Pre.State) × (Post.State × Pix.State))
-        → Decides A.alike (Did P.does E.form) s.0.0
-        → Decides (AlikePrefix B.alike) (Did Pre.does E.form) s.0.1
-        → Decides (AlikePostfix C.alike) (Did Post.does E.form) s.1.0
-        → Decides (AlikeInfix D.alike) (Did Pix.does E.form) s.1.1
+        → Decides A.alike (Ran I.reading P.does E.form) s.0.0
+        → Decides (AlikePrefix B.alike) (Ran I.reading Pre.does E.form) s.0.1
+        → Decides (AlikePostfix C.alike) (Ran I.reading Post.does E.form) s.1.0
+        → Decides (AlikeInfix D.alike) (Ran I.reading Pix.does E.form) s.1.1
         → (level : ℤ) (i : Input I.Seen) (r u : Tree O F G H) (m n : Input I.Seen) (b c : Bool)
-        → KeepsOver (did_grammar I.reading.units E.form P.does Pre.does
+        → KeepsOver (did_grammar I.reading E.form P.does Pre.does
         Post.does Pix.does F.folds G.folds H.folds) s level i r m b
-        → KeepsOver (did_grammar I.reading.units E.form P.does Pre.does
+        → KeepsOver (did_grammar I.reading E.form P.does Pre.does
         Post.does Pix.does F.folds G.folds H.folds) s level i u n c
         → AlikeTree A.alike B.alike C.alike D.alike r u × (m ≡ n) × (b ≡ c) }
 {}
@@ -248,71 +246,71 @@ pub fn assert_rules_leave_no_tree<
     A: Likeness<O>,
 >()
     ensures asserts { (s : (P.State × Pre.State) × (Post.State × Pix.State) × ℤ)
-        → Premises A.alike (Did P.does E.form) (Did Pre.does E.form) (Did Post.does E.form)
-        (Did Pix.does E.form) (G.folds E.form)
+        → Premises A.alike (Ran I.reading P.does E.form) (Ran I.reading Pre.does E.form)
+        (Ran I.reading Post.does E.form) (Ran I.reading Pix.does E.form) (G.folds E.form)
         (folding (F.folds E.form) (H.folds E.form) I.reading.units (assert_kind E.form))
         s.0.0 s.0.1 s.1.0 s.1.1
         → (i : Input I.Seen) (k : Kind)
         (t : (P.State × Pre.State) × (Post.State × Pix.State) × ℤ) (j : Input I.Seen)
-        → LeveledRuns (asserting (did_grammar I.reading.units E.form P.does Pre.does
+        → LeveledRuns (asserting (did_grammar I.reading E.form P.does Pre.does
         Post.does Pix.does F.folds G.folds H.folds)) s i (Err k) t j → (k ≡ memory → ⊥)
         → (r : Tree O F G H) (n : Input I.Seen) (all : Bool)
-        → KeepsOver (did_grammar I.reading.units E.form P.does Pre.does
+        → KeepsOver (did_grammar I.reading E.form P.does Pre.does
         Post.does Pix.does F.folds G.folds H.folds) (s.0, s.1) s.2 i r n all → ⊥ }
     ensures failures { (s : (P.State × Pre.State) × (Post.State × Pix.State) × ℤ)
-        → Premises A.alike (Did P.does E.form) (Did Pre.does E.form) (Did Post.does E.form)
-        (Did Pix.does E.form) (G.folds E.form)
+        → Premises A.alike (Ran I.reading P.does E.form) (Ran I.reading Pre.does E.form)
+        (Ran I.reading Post.does E.form) (Ran I.reading Pix.does E.form) (G.folds E.form)
         (folding (F.folds E.form) (H.folds E.form) I.reading.units (assert_kind E.form))
         s.0.0 s.0.1 s.1.0 s.1.1
         → (i : Input I.Seen) (k : Kind)
         (t : (P.State × Pre.State) × (Post.State × Pix.State) × ℤ) (j : Input I.Seen)
-        → LeveledRuns (accepting (did_grammar I.reading.units E.form P.does Pre.does
+        → LeveledRuns (accepting (did_grammar I.reading E.form P.does Pre.does
         Post.does Pix.does F.folds G.folds H.folds)) s i (Err k) t j → (k ≡ memory → ⊥)
         → (r : Tree O F G H) (n : Input I.Seen) (all : Bool)
-        → KeepsOver (did_grammar I.reading.units E.form P.does Pre.does
+        → KeepsOver (did_grammar I.reading E.form P.does Pre.does
         Post.does Pix.does F.folds G.folds H.folds) (s.0, s.1) s.2 i r n all → ⊥ }
     ensures ends { (s : (P.State × Pre.State) × (Post.State × Pix.State) × ℤ)
-        → Premises A.alike (Did P.does E.form) (Did Pre.does E.form) (Did Post.does E.form)
-        (Did Pix.does E.form) (G.folds E.form)
+        → Premises A.alike (Ran I.reading P.does E.form) (Ran I.reading Pre.does E.form)
+        (Ran I.reading Post.does E.form) (Ran I.reading Pix.does E.form) (G.folds E.form)
         (folding (F.folds E.form) (H.folds E.form) I.reading.units (assert_kind E.form))
         s.0.0 s.0.1 s.1.0 s.1.1
         → (i : Input I.Seen) (k : Kind)
         (t : (P.State × Pre.State) × (Post.State × Pix.State) × ℤ) (j : Input I.Seen)
-        → LeveledRuns (accepting (did_grammar I.reading.units E.form P.does Pre.does
+        → LeveledRuns (accepting (did_grammar I.reading E.form P.does Pre.does
         Post.does Pix.does F.folds G.folds H.folds)) s i (Err k) t j → (k ≡ memory → ⊥)
-        → EndedBy (did_grammar I.reading.units E.form P.does Pre.does
+        → EndedBy (did_grammar I.reading E.form P.does Pre.does
         Post.does Pix.does F.folds G.folds H.folds) (s.0, s.1) i k j
-        ⊎ Unmoved (did_grammar I.reading.units E.form P.does Pre.does
+        ⊎ Unmoved (did_grammar I.reading E.form P.does Pre.does
         Post.does Pix.does F.folds G.folds H.folds) (s.0, s.1) i }
     ensures kind { (s : (P.State × Pre.State) × (Post.State × Pix.State) × ℤ)
         (i : Input I.Seen) (k : Kind)
         (t : (P.State × Pre.State) × (Post.State × Pix.State) × ℤ) (j : Input I.Seen)
-        → LeveledRuns (asserting (did_grammar I.reading.units E.form P.does Pre.does
+        → LeveledRuns (asserting (did_grammar I.reading E.form P.does Pre.does
         Post.does Pix.does F.folds G.folds H.folds)) s i (Err k) t j
         → (k ≡ assert_kind E.form) ⊎ (k ≡ memory) }
     ensures within { (s : (P.State × Pre.State) × (Post.State × Pix.State) × ℤ)
         (i : Input I.Seen) (answer : Answer O)
         (t : (P.State × Pre.State) × (Post.State × Pix.State) × ℤ) (j : Input I.Seen)
-        → LeveledRuns (asserting (did_grammar I.reading.units E.form P.does Pre.does
+        → LeveledRuns (asserting (did_grammar I.reading E.form P.does Pre.does
         Post.does Pix.does F.folds G.folds H.folds)) s i answer t j
-        → LeveledRuns (accepting (did_grammar I.reading.units E.form P.does Pre.does
+        → LeveledRuns (accepting (did_grammar I.reading E.form P.does Pre.does
         Post.does Pix.does F.folds G.folds H.folds)) s i answer t j }
     ensures run { (s : (P.State × Pre.State) × (Post.State × Pix.State) × ℤ)
         (i : Input I.Seen) (answer : Answer O)
         (t : (P.State × Pre.State) × (Post.State × Pix.State) × ℤ) (j : Input I.Seen)
-        → LeveledRuns (accepting (did_grammar I.reading.units E.form P.does Pre.does
+        → LeveledRuns (accepting (did_grammar I.reading E.form P.does Pre.does
         Post.does Pix.does F.folds G.folds H.folds)) s i answer t j
-        → Did (ExpressionDoes (operators I.reading.units F.folds G.folds H.folds)
-        P.does Pre.does Post.does Pix.does) E.form s i answer t j }
+        → Did (PartsDo I.reading P.does Pre.does Post.does Pix.does F.folds G.folds
+        H.folds) E.form s i answer t j }
     ensures either { (s : (P.State × Pre.State) × (Post.State × Pix.State) × ℤ)
         (i : Input I.Seen) (answer : Answer O)
         (t : (P.State × Pre.State) × (Post.State × Pix.State) × ℤ) (j : Input I.Seen)
-        → Ran I.reading (ExpressionDoes (operators I.reading.units F.folds G.folds H.folds)
-        P.does Pre.does Post.does Pix.does) E.form s i answer t j
+        → Ran I.reading (PartsDo I.reading P.does Pre.does Post.does Pix.does F.folds G.folds
+        H.folds) E.form s i answer t j
         → (u : (P.State × Pre.State) × (Post.State × Pix.State) × ℤ) × (k : Input I.Seen)
-        × (LeveledRuns (accepting (did_grammar I.reading.units E.form P.does Pre.does
+        × (LeveledRuns (accepting (did_grammar I.reading E.form P.does Pre.does
         Post.does Pix.does F.folds G.folds H.folds)) s i answer u k ⊎ FoldAnswers
-        (did_grammar I.reading.units E.form P.does Pre.does
+        (did_grammar I.reading E.form P.does Pre.does
         Post.does Pix.does F.folds G.folds H.folds) answer k)
         × (NotMemory answer → (u ≡ t) × (k ≡ j)) }
 {}

@@ -2,11 +2,6 @@
 use Rattle.std.specs.Prelude.{◌≡◌, ℕ, ℤ, Bool, true, false, List, [], ◌∷◌, ◌++◌, Option}
 use Rattle.std.specs.Prelude.{if◌then◌else◌}
 use Rattle.std.proofs.Common.{append_assoc, refl, sym, ◌∙◌, ap}
-use Rattle.streams.specs.Input.{Input, IsEndOf}
-use Rattle.streams.specs.Text.{text_reading}
-use Rattle.stream_errors.specs.Form.{Answer}
-use Rattle.winnow_expression_trees.specs.Items.{ItemRuns}
-use Rattle.winnow_expression_trees.specs.Items.Premises.{item_ends}
 use Rattle.format_calculator.specs.Calculator.{CharItem, NumberItem, behind, is_digit, is_white}
 
 pub behind_takes : (test : ℕ → Bool) (c : ℕ) (cs : List ℕ) → test c ≡ true
@@ -45,17 +40,3 @@ number_splits tokens rest v ((more, (c, splits, digit)), is, fits, e) =
           (split ∙ ap (λ l. digits ++ l) (last ∙ ap (λ l. white ++ l) (sym same))
           ∙ sym (append_assoc digits white rest)),
     )
-
-pub number_ends : (i j : Input ℕ) (a : Answer ℤ) → ItemRuns NumberItem i a j
-    → IsEndOf text_reading j i
-number_ends i j a r = item_ends text_reading NumberItem (λ p n. refl)
-    (λ tokens rest o is. let (c, front, split) = number_splits tokens rest o is
-    in (c ∷ front, split))
-    i j a r
-
-pub char_ends : {O : Type 0} (meant : ℕ → Option O) (i j : Input ℕ) (a : Answer O)
-    → ItemRuns (CharItem meant) i a j → IsEndOf text_reading j i
-char_ends meant i j a r = item_ends text_reading (CharItem meant) (λ p n. refl)
-    (λ tokens rest o is. let (c, front, split) = char_splits meant tokens rest o is
-    in (c ∷ front, split))
-    i j a r

@@ -1,27 +1,31 @@
 -- The parts of an expression are covered.
-use Rattle.std.specs.Prelude.{◌≡◌, ◌⊎◌, List, ℕ, Option, None, Ok, Err}
+use Rattle.std.specs.Prelude.{◌≡◌, ◌<◌, ◌⊎◌, List, ℕ, Option, None, Ok, Err}
 use Rattle.std.proofs.Common.{refl, sym, subst, ap, ◌∙◌, inl, inr}
-use Rattle.streams.specs.Input.{Input, back_at}
+use Rattle.streams.specs.Input.{Input, Remaining, back_at, is_end_of_back, is_end_of_trans}
 use Rattle.streams.specs.Kind.{Kind, backtrack, cut, incomplete, memory}
-use Rattle.stream_errors.specs.Form.{Answer}
-use Rattle.parser_definitions.specs.Does.{Lawful}
+use Rattle.streams.specs.Reading.{Reading}
+use Rattle.stream_errors.specs.Form.{Answer, ErrorForm}
+use Rattle.parser_definitions.specs.Does.{Lawful, Ran}
 use Rattle.parser_definitions.specs.Left.{End, back, extend, left_of}
 use Rattle.parser_definitions.specs.Outcome.{Alike, Does, IsFinal, Outcome, Setting, asks, backs}
-use Rattle.parser_definitions.specs.Outcome.{cuts, grown, longer, outcome_of, took}
+use Rattle.parser_definitions.specs.Outcome.{cuts, grown, longer, outcome_of, setting_of, took}
 use Rattle.parser_definitions.specs.Outcome.{wants}
 use Rattle.parser_definitions.specs.Places.{FirstDoes, NextDoes, or_infix, or_nothing, or_prefix}
 use Rattle.parser_definitions.specs.Then.{ComesOf}
 use Rattle.parser_definitions.specs.Then.Steps.{takes, with_first, with_second}
-use Rattle.winnow_core.specs.Covers.{At, Covers, at_back, at_same, failed, gave}
+use Rattle.winnow_core.specs.Covers.{At, Covers, at_back, at_same, covered_ran, failed, gave}
 use Rattle.winnow_core.specs.Covers.{left_at, pair_is}
+use Rattle.winnow_core.specs.Ends.{back_ends}
 use Rattle.winnow_core.specs.Runs.{Runs}
 use Rattle.winnow_expression.specs.Definition.{OutputAs, first_side, made_as, next_side}
+use Rattle.winnow_expression.specs.Ending.{Ending, ending_covers}
 use Rattle.winnow_expression.specs.Places.{FirstRuns, NextRuns}
 use Rattle.winnow_expression.specs.declared.combinator.operators.Infix.{Infix}
 use Rattle.winnow_expression.specs.declared.combinator.operators.Postfix.{Postfix}
 use Rattle.winnow_expression.specs.declared.combinator.operators.Prefix.{Prefix}
 use Rattle.winnow_expression.specs.declared.combinator.places.First.{First}
 use Rattle.winnow_expression.specs.declared.combinator.places.Next.{Next}
+use Rattle.winnow_expression.specs.declared.combinator.places.Next.TheVariants.{Nothing}
 
 -- ---- outputs that are written in another way
 
@@ -281,3 +285,26 @@ module _ {S W T G H : Type 0} {at : Setting} (units : List T → ℕ) {postfix :
   pub next_covered : Covers at (NextRuns units postfix infix_)
       (OutputAs next_side (NextDoes units one two))
   next_covered = as_covered (NextDoes units one two) next_side next_calls
+
+-- ---- a call
+
+-- there is no operator: both parts backtrack, and the input is reset
+pub nothing_ran : {S W T L G H : Type 0} (reading : Reading T L) (one : Does S T (Postfix G))
+    (two : Does W T (Infix H)) (form : ErrorForm) (s t : S × W) (i m start n j : Input T)
+    (x : Remaining T) (k l : Kind) → 0 < reading.units i.left.tokens
+    → Ran reading one form s.0 i (Err k) t.0 m → k ≡ backtrack → start ≡ back_at x m → x ≡ i.left
+    → Ran reading two form s.1 start (Err l) t.1 n → l ≡ backtrack → j ≡ back_at x n
+    → Ran reading (OutputAs next_side (NextDoes reading.units (Ending reading one)
+    (Ending reading two))) form s i (Ok Nothing) t j
+nothing_ran reading one two form s t i m start n j x k l some first none back at second nothing
+    rest =
+    let r = subst (λ z. Ran reading one form s.0 i (Err z) t.0 m) none first in
+    let P : Input _ → Kind → Type 0 = λ z h. Ran reading two form s.1 z (Err h) t.1 n in
+    let q = subst (λ h. P (back_at i.left m) h) nothing
+    (subst (λ z. P z l) (back ∙ ap (λ y. back_at y m) at) second) in
+    let place : j ≡ back_at i.left n = rest ∙ ap (λ y. back_at y n) at in
+    covered_ran reading form s i (Ok Nothing) t j
+    (back_ends reading i n j place (is_end_of_trans q.0 (is_end_of_back refl r.0)))
+    (next_covered reading.units (ending_covers reading one (setting_of form i))
+    (ending_covers reading two (setting_of form i)))
+    (inr (some, inr (inr (m, r, inr (inr (n, q, place, refl))))))

@@ -6,7 +6,8 @@ use Rattle.streams.specs.Input.{Input, IsEndOf}
 use Rattle.streams.specs.Kind.{Kind, backtrack, cut, incomplete, memory}
 use Rattle.streams.specs.Reading.{Reading}
 use Rattle.stream_errors.specs.Form.{Answer, ErrorForm, assert_kind}
-use Rattle.parser_definitions.specs.Expression.{Call, ExpressionDoes, FoldsOpen}
+use Rattle.parser_definitions.specs.Does.{Ran}
+use Rattle.parser_definitions.specs.Expression.{Call, FoldsOpen}
 use Rattle.parser_definitions.specs.Expression.{JoinDoes, JoinEnds, Open, TailDoes}
 use Rattle.parser_definitions.specs.Expression.{TreeDoes, all_end, call_at}
 use Rattle.parser_definitions.specs.Expression.{join_ends, join_goes}
@@ -22,20 +23,19 @@ use Rattle.winnow_core.specs.Covers.{at_end}
 use Rattle.winnow_core.specs.Runs.{Runs}
 use Rattle.winnow_expression.specs.Covers.Parts.{first_covered, next_covered}
 use Rattle.winnow_expression.specs.Covers.Trees.{call_kept, kept, operator_kept, trees_covered}
-use Rattle.winnow_expression.specs.Definition.{operators}
 use Rattle.winnow_expression.specs.Did.{Came, Did, came_by, came_map, came_run, here}
-use Rattle.winnow_expression.specs.Did.{did_covers}
 use Rattle.winnow_expression.specs.Did.Steps as step
 use Rattle.winnow_expression.specs.Did.Steps.{Checks, FoldCame, PartsCame, all_is, checks, first_at}
 use Rattle.winnow_expression.specs.Did.Steps.{folded, next_at, tail_ended, took_came, tree_ended}
 use Rattle.winnow_expression.specs.Did.Parts.{first_came, next_came}
+use Rattle.winnow_expression.specs.Ending.{Ending, ending_covers}
 use Rattle.winnow_expression.specs.Expression.{JoinedRuns, LeveledRuns}
 use Rattle.winnow_expression.specs.Expression.{call_operand, call_prefix, resume_ends}
 use Rattle.winnow_expression.specs.Expression.{resume_goes, turn_infix, turn_postfix}
 use Rattle.winnow_expression.specs.Folds.{DoesBinary, DoesUnary}
 use Rattle.winnow_expression.specs.Grammar.{Closes}
 use Rattle.winnow_expression.specs.Operators.{fold_of, right_power}
-use Rattle.winnow_expression.specs.Parts.{did_grammar}
+use Rattle.winnow_expression.specs.Parts.{PartsDo, did_grammar}
 use Rattle.winnow_expression.specs.Places.{FirstRuns, NextRuns}
 use Rattle.winnow_expression.specs.Units.{units_left}
 use Rattle.winnow_expression.specs.declared.combinator.operators.Infix.{Infix}
@@ -227,10 +227,9 @@ pub expression_came : {S1 S2 S3 S4 T V L F G H : Type 0} (reading : Reading T L)
     → between form f i l r a j → IsEndOf reading j i)
     → (s : (S1 × S2) × (S3 × S4) × ℤ) (i : Input T) (a : Answer V)
     (t : (S1 × S2) × (S3 × S4) × ℤ) (j : Input T)
-    → Did (ExpressionDoes (operators reading.units before behind between) d1 d2 d3 d4) form s i a
-    t j
+    → Did (PartsDo reading d1 d2 d3 d4 before behind between) form s i a t j
     → (u : (S1 × S2) × (S3 × S4) × ℤ) × (k : Input T)
-    × LeveledRuns (did_grammar reading.units form d1 d2 d3 d4 before behind between) s i a u k
+    × LeveledRuns (did_grammar reading form d1 d2 d3 d4 before behind between) s i a u k
     × ((a ≡ Err memory → ⊥) → (u ≡ t) × (k ≡ j))
 expression_came {S1} {S2} {S3} {S4} {T} {V} reading form before behind between d1 d2 d3 d4
     ends1 ends2 ends3 s i a t j (more, possible, (x, d, is)) =
@@ -243,12 +242,14 @@ expression_came {S1} {S2} {S3} {S4} {T} {V} reading form before behind between d
     Q : Type 0
     Q = (S1 × S2) × (S3 × S4) × ℤ
 
-    parts : PartsCame at reading.units before behind between (FirstRuns (Did d1 form) (Did d2 form))
-        (NextRuns reading.units (Did d3 form) (Did d4 form)) (FirstDoes d1 d2)
-        (NextDoes reading.units d3 d4)
+    parts : PartsCame at reading.units before behind between
+        (FirstRuns (Ran reading d1 form) (Ran reading d2 form))
+        (NextRuns reading.units (Ran reading d3 form) (Ran reading d4 form))
+        (FirstDoes (Ending reading d1) (Ending reading d2))
+        (NextDoes reading.units (Ending reading d3) (Ending reading d4))
     parts = record {
-      reads_first = first_came at d1 d2;
-      reads_next = next_came at reading.units d3 d4;
+      reads_first = first_came reading at d1 d2;
+      reads_next = next_came reading at d3 d4;
       keeps_before = λ f i v a j r here.
           at_end {reading = reading} here (ends1 at.form f i v a j r);
       keeps_behind = λ f i v a j r here.
@@ -259,7 +260,7 @@ expression_came {S1} {S2} {S3} {S4} {T} {V} reading form before behind between d
 
     Whole : Answer V → Q → Input T → Type 0
     Whole a u k =
-        LeveledRuns (did_grammar reading.units form d1 d2 d3 d4 before behind between) s i a u k
+        LeveledRuns (did_grammar reading form d1 d2 d3 d4 before behind between) s i a u k
 
     by : (x : Outcome (End Q T) (V × Bool))
         → Came at (step.TreeAt parts (call_at s.2 (reading.units i.left.tokens)) s (left_of i)) x
@@ -285,14 +286,15 @@ pub expression_did : {S1 S2 S3 S4 T V L F G H : Type 0} (reading : Reading T L) 
     → between form f i l r a j → IsEndOf reading j i)
     → (s : (S1 × S2) × (S3 × S4) × ℤ) (i : Input T) (a : Answer V)
     (t : (S1 × S2) × (S3 × S4) × ℤ) (j : Input T)
-    → LeveledRuns (did_grammar reading.units form d1 d2 d3 d4 before behind between) s i a t j
-    → Did (ExpressionDoes (operators reading.units before behind between) d1 d2 d3 d4) form s i a
-    t j
+    → LeveledRuns (did_grammar reading form d1 d2 d3 d4 before behind between) s i a t j
+    → Did (PartsDo reading d1 d2 d3 d4 before behind between) form s i a t j
 expression_did reading form before behind between d1 d2 d3 d4 ends1 ends2 ends3 s i a t j run =
     let at = setting_of form i in
-    let told = (trees_covered reading before behind between (FirstDoes d1 d2)
-    (NextDoes reading.units d3 d4) ends1 ends2 ends3
-    (first_covered (did_covers d1 at) (did_covers d2 at))
-    (next_covered reading.units (did_covers d3 at) (did_covers d4 at))).covers s i a t j
+    let told = (trees_covered reading before behind between
+    (FirstDoes (Ending reading d1) (Ending reading d2))
+    (NextDoes reading.units (Ending reading d3) (Ending reading d4)) ends1 ends2 ends3
+    (first_covered (ending_covers reading d1 at) (ending_covers reading d2 at))
+    (next_covered reading.units (ending_covers reading d3 at) (ending_covers reading d4 at))).covers
+    s i a t j
     (record { more = refl; possible = refl }) run in
     (told.1.more, told.1.possible, told.0)

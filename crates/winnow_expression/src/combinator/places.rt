@@ -4,6 +4,7 @@ ghost use Rattle.parser_definitions.specs.Escaped.{AlikeSides};
 ghost use Rattle.parser_definitions.specs.Places.{FirstDoes, NextDoes, first_law, next_law};
 ghost use Rattle.winnow_expression.specs.Covers.Parts.{as_law};
 ghost use Rattle.winnow_expression.specs.Definition.{OutputAs, first_side, next_side};
+ghost use Rattle.winnow_expression.specs.Ending.{Ending, ending_law};
 ghost use Rattle.parser_definitions.specs.Terms.{no_claim, nothing_claimed};
 
 use crate::combinator::operators::{Infix, Postfix, Prefix};
@@ -51,7 +52,8 @@ impl<I: Stream, O, E: ParserError<I>, F, P: Parser<I, O, E>, R: Parser<I, Prefix
 
     ghost state = { λ s. (P.state s.operand, R.state s.prefix) };
 
-    ghost does = { OutputAs first_side (FirstDoes P.does R.does) };
+    ghost does = { OutputAs first_side
+        (FirstDoes (Ending I.reading P.does) (Ending I.reading R.does)) };
 
     ghost terms = { record {
       premise = P.terms.premise × R.terms.premise;
@@ -62,7 +64,8 @@ impl<I: Stream, O, E: ParserError<I>, F, P: Parser<I, O, E>, R: Parser<I, Prefix
 
     ghost lawful = { record {
       law = λ is. as_law first_side (AlikeSides P.terms.alike R.terms.alike)
-          (first_law (P.lawful.law is.0) (R.lawful.law is.1));
+          (first_law (ending_law I.reading (P.lawful.law is.0))
+          (ending_law I.reading (R.lawful.law is.1)));
       claimed = λ _. nothing_claimed;
     } };
 
@@ -97,7 +100,8 @@ impl<
 
     ghost state = { λ s. (P.state s.postfix, R.state s.«infix») };
 
-    ghost does = { OutputAs next_side (NextDoes I.reading.units P.does R.does) };
+    ghost does = { OutputAs next_side
+        (NextDoes I.reading.units (Ending I.reading P.does) (Ending I.reading R.does)) };
 
     ghost terms = { record {
       premise = P.terms.premise × R.terms.premise;
@@ -110,7 +114,8 @@ impl<
     ghost lawful = { record {
       law = λ is. as_law next_side
           (AlikeOptions (AlikeSides P.terms.alike R.terms.alike))
-          (next_law I.reading.units (P.lawful.law is.0) (R.lawful.law is.1));
+          (next_law I.reading.units (ending_law I.reading (P.lawful.law is.0))
+          (ending_law I.reading (R.lawful.law is.1)));
       claimed = λ _. nothing_claimed;
     } };
 

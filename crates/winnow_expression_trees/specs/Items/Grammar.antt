@@ -40,11 +40,6 @@ ReadsTree {V = V} {F} {G} {H} operand prefix postfix infix_ one other two level 
     × ItemsTree operand prefix postfix infix_ level tokens tree rest all
     × HasValue one other two tree v
 
--- An item is a prefix of the tokens.
-abbrev pub IsFront : {T O : Type 0} → Items T O → Type 0
-IsFront {T} {O} item = (tokens : List T) (o : O) (rest : List T) → item tokens o rest
-    → (front : List T) × (tokens ≡ front ++ rest)
-
 -- one beginning after another is a beginning
 joined : {T : Type 0} {i k j : List T} → (front : List T) × (i ≡ front ++ k)
     → (front : List T) × (k ≡ front ++ j) → (front : List T) × (i ≡ front ++ j)
@@ -143,25 +138,23 @@ module _ {T V F G H : Type 0} (operand : Items T V) (prefix : Items T (Prefix F)
     one_rest tokens v w rest behind_ (t, b, (ot, kt), x) (u, c, (ou, ku), y) =
         (one_tree decided level tokens t u rest behind_ b c ot kt ou ku).1
 
-    over_front : IsFront operand → IsFront prefix → IsFront postfix → IsFront infix_
-        → (r : Tree V F G H) (i j : List T)
+    over_front : (r : Tree V F G H) (i j : List T)
         → Over (FirstItems operand prefix) (NextItems postfix infix_) r i j
         → (front : List T) × (i ≡ front ++ j)
-    over_front a b c d (leaf v) i j over = a i v j over
-    over_front a b c d (before p f r) i j (k, (none, read), over) =
-        joined (b i (p, f) k read) (over_front a b c d r k j over)
-    over_front a b c d (behind p g l) i j (k, over, read) =
-        joined (over_front a b c d l i k over) (c k (p, g) j read)
-    over_front a b c d (between o l r) i j (k, n, left, (none, read), right) =
-        joined (over_front a b c d l i k left)
-        (joined (d k o n read) (over_front a b c d r n j right))
+    over_front (leaf v) i j over = operands.front i v j over
+    over_front (before p f r) i j (k, (none, read), over) =
+        joined (prefixes.front i (p, f) k read) (over_front r k j over)
+    over_front (behind p g l) i j (k, over, read) =
+        joined (over_front l i k over) (postfixes.front k (p, g) j read)
+    over_front (between o l r) i j (k, n, left, (none, read), right) =
+        joined (over_front l i k left)
+        (joined (infixes.front k o n read) (over_front r n j right))
 
-    pub tree_unique : IsFront operand → IsFront prefix → IsFront postfix → IsFront infix_
-        → IsUnique (ReadsTree operand prefix postfix infix_ one other two level)
+    pub tree_unique : IsUnique (ReadsTree operand prefix postfix infix_ one other two level)
     unfolding ReadsTree
-    tree_unique a b c d = record {
+    tree_unique = record {
       ends = λ tokens v rest (tree, all, (over, keeps), value).
-          over_front a b c d tree tokens rest over;
+          over_front tree tokens rest over;
       one = one_rest;
     }
 

@@ -1,13 +1,14 @@
 -- Properties of trees over inputs, for trees over lists of tokens.
-use Rattle.std.specs.Prelude.{◌≡◌, ℤ, Bool, List, Ok, Err}
+use Rattle.std.specs.Prelude.{◌≡◌, ℕ, ℤ, Bool, List, Ok, Err}
 use Rattle.std.proofs.lemmas.Bool.{cases_lt}
 use Rattle.std.proofs.Common.{refl, sym, ◌∙◌, ap, subst, inl, inr, arith}
-use Rattle.streams.specs.Input.{Input, back_at}
+use Rattle.streams.specs.Input.{Input, back_at, is_end_of_refl}
 use Rattle.streams.specs.Kind.{Kind, backtrack}
+use Rattle.streams.specs.Place.{Place}
 use Rattle.streams.specs.Reading.{Reading}
 use Rattle.stream_errors.specs.Form.{Answer, ErrorForm}
 use Rattle.stream_errors.specs.Form.Inversion.{ok_is_err, same_ok}
-use Rattle.winnow_expression.specs.Did.{Did}
+use Rattle.parser_definitions.specs.Does.{Ran}
 use Rattle.winnow_expression.specs.Grammar.{Grammar, folding}
 use Rattle.winnow_expression.specs.Operators.{fold_of}
 use Rattle.winnow_expression.specs.Parts.{parts_grammar}
@@ -38,9 +39,8 @@ use Rattle.winnow_expression_trees.specs.Premises.{Premises}
 use Rattle.winnow_expression_trees.specs.Reading.{FirstStep, NextStep, Over}
 use Rattle.winnow_expression_trees.specs.Tree.{Tree, leaf, before, behind, between}
 use Rattle.winnow_expression_trees.specs.Value.{Value}
-use Rattle.winnow_expression_trees.specs.Items.Premises.{gives_alike, gives_both_alike}
+use Rattle.winnow_expression_trees.specs.Items.Premises.{gives_alike, gives_both_alike, item_end}
 use Rattle.winnow_expression_trees.specs.Items.Premises.{item_run, items_move, items_stateless}
-use Rattle.winnow_expression_trees.specs.Premises.Decided.{fewer_falls}
 
 -- ---- runs, as items
 
@@ -70,8 +70,9 @@ gives_up : {T V : Type 0} (given : V → Type 0) (i : Input T) (v : V) → given
     → Gives given i (Ok v) i
 gives_up given i v is = inl (v, is, refl, refl)
 
+-- The stream keeps no place.
 module _ {S1 S2 S3 S4 T V F G H L : Type 0} (reading : Reading T L) (form : ErrorForm)
-    (refusal : Kind)
+    (refusal : Kind) (still : (p : Place) (n : ℕ) → reading.advance p n ≡ p)
     (operand : Items T V) (prefix : Items T (Prefix F)) (postfix : Items T (Postfix G))
     (infix_ : Items T (Infix H)) (one : F → V → V → Type 0) (other : G → V → V → Type 0)
     (two : H → V → V → V → Type 0) (s1 : S1) (s2 : S2) (s3 : S3) (s4 : S4)
@@ -87,26 +88,26 @@ module _ {S1 S2 S3 S4 T V F G H L : Type 0} (reading : Reading T L) (form : Erro
   Between h i v w a j = Gives (two h v w) i a j
 
   abbrev whole : Grammar (S1 × S2) (S3 × S4) T V F G H
-  whole = parts_grammar reading.units refusal (Did (ItemDoes operand) form)
-      (Did (ItemDoes prefix) form) (Did (ItemDoes postfix) form)
-      (Did (ItemDoes infix_) form) Before AfterItems Between
+  whole = parts_grammar reading.units refusal (Ran reading (ItemDoes operand) form)
+      (Ran reading (ItemDoes prefix) form) (Ran reading (ItemDoes postfix) form)
+      (Ran reading (ItemDoes infix_) form) Before AfterItems Between
 
   abbrev states : (S1 × S2) × (S3 × S4)
   states = ((s1, s2), (s3, s4))
 
   pub items_premises : ((f : F) (v : V) → GivesOne (one f v))
       → ((g : G) (v : V) → GivesOne (other g v)) → ((h : H) (v w : V) → GivesOne (two h v w))
-      → Premises (λ v w. v ≡ w) (Did (ItemDoes operand) form)
-      (Did (ItemDoes prefix) form) (Did (ItemDoes postfix) form)
-      (Did (ItemDoes infix_) form) AfterItems
+      → Premises (λ v w. v ≡ w) (Ran reading (ItemDoes operand) form)
+      (Ran reading (ItemDoes prefix) form) (Ran reading (ItemDoes postfix) form)
+      (Ran reading (ItemDoes infix_) form) AfterItems
       (folding Before Between reading.units refusal) s1 s2 s3 s4
   items_premises ones others twos = record {
-    operands = items_stateless reading.units (λ v w. v ≡ w) operand form s1 operands (λ o. refl);
-    prefixes = items_stateless reading.units (AlikePrefix (FoldAlike (λ v w. v ≡ w) Before)) prefix
+    operands = items_stateless reading (λ v w. v ≡ w) operand form s1 operands (λ o. refl);
+    prefixes = items_stateless reading (AlikePrefix (FoldAlike (λ v w. v ≡ w) Before)) prefix
         form s2 prefixes (λ o. (refl, gives_alike one o.1 (ones o.1)));
-    postfixes = items_stateless reading.units (AlikePostfix (FoldAlike (λ v w. v ≡ w) AfterItems))
+    postfixes = items_stateless reading (AlikePostfix (FoldAlike (λ v w. v ≡ w) AfterItems))
         postfix form s3 postfixes (λ o. (refl, gives_alike other o.1 (others o.1)));
-    infixes = items_stateless reading.units (AlikeInfix (FoldsAlike (λ v w. v ≡ w) Between)) infix_
+    infixes = items_stateless reading (AlikeInfix (FoldsAlike (λ v w. v ≡ w) Between)) infix_
         form s4 infixes (λ o. (
           refl,
           refl,
@@ -114,19 +115,21 @@ module _ {S1 S2 S3 S4 T V F G H L : Type 0} (reading : Reading T L) (form : Erro
           gives_both_alike two (fold_of o)
               (twos (fold_of o)),
         ));
-    operands_fall = λ i j o t r.
-        fewer_falls reading.units i j (items_move reading.units operand form s1 operands i j o t r);
-    prefixes_fall = λ i j o t r.
-        fewer_falls reading.units i j (items_move reading.units prefix form s2 prefixes i j o t r);
-    postfixes_fall = λ i j o t r.
-        fewer_falls reading.units i j (items_move reading.units postfix form s3 postfixes i j o t
-        r);
-    infixes_fall = λ i j o t r.
-        fewer_falls reading.units i j (items_move reading.units infix_ form s4 infixes i j o t r);
-    neither_moves = λ i j o p t r is. items_move reading.units infix_ form s4 infixes i j o t r;
+    neither_moves = λ i j o p t r is. items_move reading infix_ form s4 infixes i j o t r;
   }
 
   -- ---- what is read at inputs is read of lists of tokens
+
+  -- a call that reads an item, and one that does not
+  some_ran : {S O : Type 0} (item : Items T O) → AreItems reading.units item → (s : S)
+      (i : Input T) (o : O) (rest : List T) → item i.left.tokens o rest
+      → Ran reading (ItemDoes item) form s i (Ok o) s (left_at i rest)
+  some_ran item are s i o rest is =
+      (item_end reading item still are i o rest is, refl, refl, inl (o, rest, is, refl))
+
+  none_ran : {S O : Type 0} (item : Items T O) (s : S) (i : Input T) → NoItem item i.left.tokens
+      → Ran reading (ItemDoes item) form s i (Err backtrack) s i
+  none_ran item s i none = (is_end_of_refl reading i, refl, refl, inr (none, refl))
 
   pub first_read : (i j : Input T) (x : First V F)
       → whole.first (s1, s2) i (Ok x) (s1, s2) j
@@ -134,7 +137,7 @@ module _ {S1 S2 S3 S4 T V F G H L : Type 0} (reading : Reading T L) (form : Erro
   first_read i j (Operand v) (inl (w, run, kept, e)) =
       let same : w ≡ v = cc in
       item_ok operand i j v (subst (λ z. ItemRuns operand i (Ok z) j) same
-      (item_run operand form s1 i (Ok w) s1 j run).0)
+      (item_run reading operand form s1 i (Ok w) s1 j run).0)
   first_read i j (Operand v) (inr (inl (k, run, unlike, kept, e))) = ok_is_err refl e
   first_read i j (Operand v) (inr (inr (inl (m, p, run, q, e)))) = absurd (cc)
   first_read i j (Operand v) (inr (inr (inr (m, k, run, q, e)))) = ok_is_err refl e
@@ -143,13 +146,13 @@ module _ {S1 S2 S3 S4 T V F G H L : Type 0} (reading : Reading T L) (form : Erro
   first_read i j (prefix_read p f) (inr (inr (inr (m, k, run, q, e)))) = ok_is_err refl e
   first_read i j (prefix_read p f) (inr (inr (inl (m, z, run, q, e)))) =
       let none = item_err operand i m backtrack
-      (item_run operand form s1 i (Err backtrack) s1 m run).0 in
+      (item_run reading operand form s1 i (Err backtrack) s1 m run).0 in
       let power : z.0 ≡ p = cc in
       let fold : z.1 ≡ f = cc in
       let is : z ≡ (p, f) = ap (λ y. (y, z.1)) power ∙ ap (λ y. (p, y)) fold in
       let read = item_ok prefix i j z
       (subst (λ y. ItemRuns prefix y (Ok z) j) (back_same i m none.1)
-      (item_run prefix form s2 (back_at i.left m) (Ok z) s2 j q).0) in
+      (item_run reading prefix form s2 (back_at i.left m) (Ok z) s2 j q).0) in
       ((none.0, subst (λ y. prefix i.left.tokens y j.left.tokens) is read.0), read.1)
 
   first_down : (i j : Input T) (x : First V F) → FirstStep whole states i x j
@@ -159,13 +162,14 @@ module _ {S1 S2 S3 S4 T V F G H L : Type 0} (reading : Reading T L) (form : Erro
 
   first_up : (i : Input T) (x : First V F) (rest : List T)
       → FirstItems operand prefix i.left.tokens x rest → FirstStep whole states i x (left_at i rest)
-  first_up i (Operand v) rest is = inl (v, (refl, refl, inl (v, rest, is, refl)), refl, refl)
+  first_up i (Operand v) rest is =
+      inl (v, some_ran operand operands s1 i v rest is, refl, refl)
   first_up i (prefix_read p f) rest (none, is) = (
     inr (inr (inl (
       i,
       (p, f),
-      (refl, refl, inr (none, refl)),
-      (refl, refl, inl ((p, f), rest, is, refl)),
+      none_ran operand s1 i none,
+      some_ran prefix prefixes s2 i (p, f) rest is,
       refl,
     ))),
     prefixes.some i.left.tokens (p, f) rest is,
@@ -194,26 +198,26 @@ module _ {S1 S2 S3 S4 T V F G H L : Type 0} (reading : Reading T L) (form : Erro
       let fold : z.1 ≡ g = cc in
       let is : z ≡ (p, g) = ap (λ y. (y, z.1)) power ∙ ap (λ y. (p, y)) fold in
       item_ok postfix i j (p, g) (subst (λ y. ItemRuns postfix i (Ok y) j) is
-      (item_run postfix form s3 i (Ok z) s3 j run).0)
+      (item_run reading postfix form s3 i (Ok z) s3 j run).0)
   next_down i j (infix_read o) (inr (some, inl (p, run, kept, e))) = absurd (cc)
   next_down i j x (inr (some, inr (inl (k, run, unlike, kept, e)))) = ok_is_err refl e
   next_down i j Nothing (inr (some, inr (inr (m, run, inl (o, q, e))))) = absurd (cc)
   next_down i j (postfix_read p g) (inr (some, inr (inr (m, run, inl (o, q, e))))) = absurd (cc)
   next_down i j (infix_read o) (inr (some, inr (inr (m, run, inl (z, q, e))))) =
       let none = item_err postfix i m backtrack
-      (item_run postfix form s3 i (Err backtrack) s3 m run).0 in
+      (item_run reading postfix form s3 i (Err backtrack) s3 m run).0 in
       let same : z ≡ o = cc in
       let read = item_ok infix_ i j o (subst (λ y. ItemRuns infix_ i (Ok y) j) same
       (subst (λ y. ItemRuns infix_ y (Ok z) j) (back_same i m none.1)
-      (item_run infix_ form s4 (back_at i.left m) (Ok z) s4 j q).0)) in
+      (item_run reading infix_ form s4 (back_at i.left m) (Ok z) s4 j q).0)) in
       ((none.0, read.0), read.1)
   next_down i j x (inr (some, inr (inr (m, run, inr (inl (k, q, unlike, e)))))) = ok_is_err refl e
   next_down i j Nothing (inr (some, inr (inr (m, run, inr (inr (n, q, place, e)))))) =
       let none = item_err postfix i m backtrack
-      (item_run postfix form s3 i (Err backtrack) s3 m run).0 in
+      (item_run reading postfix form s3 i (Err backtrack) s3 m run).0 in
       let missing = item_err infix_ i n backtrack
       (subst (λ y. ItemRuns infix_ y (Err backtrack) n) (back_same i m none.1)
-      (item_run infix_ form s4 (back_at i.left m) (Err backtrack) s4 n q).0) in
+      (item_run reading infix_ form s4 (back_at i.left m) (Err backtrack) s4 n q).0) in
       let at : j ≡ i = place ∙ back_same i n missing.1 in (
         (none.0, missing.0, ap (λ z. z.left.tokens) at),
         at ∙ ap (λ z. left_at i z) (sym (ap (λ z. z.left.tokens) at)),
@@ -231,8 +235,8 @@ module _ {S1 S2 S3 S4 T V F G H L : Type 0} (reading : Reading T L) (form : Erro
           some,
           inr (inr (
             i,
-            (refl, refl, inr (none, refl)),
-            inr (inr (i, (refl, refl, inr (missing, refl)), ap (λ z. left_at i z) same, refl)),
+            none_ran postfix s3 i none,
+            inr (inr (i, none_ran infix_ s4 i missing, ap (λ z. left_at i z) same, refl)),
           )),
         )
         | inr few ↦ inl (omega (arith, few), refl, refl, ap (λ z. left_at i z) same)
@@ -241,7 +245,7 @@ module _ {S1 S2 S3 S4 T V F G H L : Type 0} (reading : Reading T L) (form : Erro
       let some = postfixes.some i.left.tokens (p, g) rest is in
       inr (
         omega (arith, some),
-        inl ((p, g), (refl, refl, inl ((p, g), rest, is, refl)), refl, refl),
+        inl ((p, g), some_ran postfix postfixes s3 i (p, g) rest is, refl, refl),
       )
   next_up i (infix_read o) rest (none, is) =
       let some = infixes.some i.left.tokens o rest is in
@@ -249,8 +253,8 @@ module _ {S1 S2 S3 S4 T V F G H L : Type 0} (reading : Reading T L) (form : Erro
         omega (arith, some),
         inr (inr (
           i,
-          (refl, refl, inr (none, refl)),
-          inl (o, (refl, refl, inl (o, rest, is, refl)), refl),
+          none_ran postfix s3 i none,
+          inl (o, some_ran infix_ infixes s4 i o rest is, refl),
         )),
       )
 

@@ -1,5 +1,5 @@
 -- Parts that read items, and folds that give values, are as the premises ask; and they leave ends.
-use Rattle.std.specs.Prelude.{◌≡◌, ◌<◌, ℕ, List, ◌++◌, Ok, Err}
+use Rattle.std.specs.Prelude.{◌≡◌, ◌<◌, ℕ, List, Ok, Err}
 use Rattle.std.proofs.Common.{refl, sym, ◌∙◌, ap, subst, inl, inr}
 use Rattle.streams.specs.Input.{Input, IsEndOf}
 use Rattle.streams.specs.Place.{Place}
@@ -10,9 +10,10 @@ use Rattle.stream_errors.specs.Form.Inversion.{ok_is_err}
 use Rattle.winnow_core.specs.Decided.{EqualResults}
 use Rattle.winnow_core.specs.Decided.Inputs.{both_err, both_ok}
 use Rattle.winnow_core.specs.Ends.{same_ends}
+use Rattle.parser_definitions.specs.Does.{Ran}
 use Rattle.parser_definitions.specs.Left.{left_of}
 use Rattle.parser_definitions.specs.Outcome.{Outcome, Setting, backs, outcome_of, setting_of, took}
-use Rattle.winnow_expression.specs.Did.{Did, here, is_here}
+use Rattle.winnow_expression.specs.Did.{here, is_here}
 use Rattle.winnow_expression.specs.Units.{units_left}
 use Rattle.winnow_expression_trees.specs.Items.{AreItems, Gives, GivesOne, ItemDoes, ItemRuns}
 use Rattle.winnow_expression_trees.specs.Items.{Items}
@@ -30,10 +31,10 @@ same_back : {L O : Type 0} {e f : L} → ◌≡◌ {A = Outcome L O} (backs e) (
 same_back e = cc
 
 -- a call of a part that reads items
-pub item_run : {S T O : Type 0} (item : Items T O) (form : ErrorForm) (s : S) (i : Input T)
-    (a : Answer O) (t : S) (j : Input T) → Did (ItemDoes item) form s i a t j
-    → ItemRuns item i a j × (t ≡ s)
-item_run {S} {T} {O} item form s i a t j (more, possible, did) = by a did
+pub item_run : {S T L O : Type 0} (reading : Reading T L) (item : Items T O) (form : ErrorForm)
+    (s : S) (i : Input T) (a : Answer O) (t : S) (j : Input T)
+    → Ran reading (ItemDoes item) form s i a t j → ItemRuns item i a j × (t ≡ s)
+item_run {S} {T} {O = O} reading item form s i a t j (ends, more, possible, did) = by a did
   where
     at : Setting
     at = setting_of form i
@@ -64,14 +65,15 @@ item_run {S} {T} {O} item form s i a t j (more, possible, did) = by a did
     by (Err memory) (inr (none, e)) = absurd (cc)
 
 -- a part that reads items is stateless, as far as an item is like itself
-pub items_stateless : {S T O : Type 0} (units : List T → ℕ) (alike : O → O → Type 0)
-    (item : Items T O) (form : ErrorForm) (s : S) → AreItems units item → ((o : O) → alike o o)
-    → IsStateless alike (Did (ItemDoes item) form) s
-items_stateless {S} {T} {O} units alike item form s are self = record {
+pub items_stateless : {S T L O : Type 0} (reading : Reading T L) (alike : O → O → Type 0)
+    (item : Items T O) (form : ErrorForm) (s : S) → AreItems reading.units item
+    → ((o : O) → alike o o) → IsStateless alike (Ran reading (ItemDoes item) form) s
+items_stateless {S} {T} {O = O} reading alike item form s are self = record {
   keeps = λ i j a t r n.
-      let (run, kept) = item_run item form s i a t j r in (kept, status i j a run);
-  decided = λ i j k a b t u r q na nb. decide i j k a b (item_run item form s i a t j r).0
-      (item_run item form s i b u k q).0;
+      let (run, kept) = item_run reading item form s i a t j r in (kept, status i j a run);
+  decided = λ i j k a b t u r q na nb.
+      decide i j k a b (item_run reading item form s i a t j r).0
+      (item_run reading item form s i b u k q).0;
 }
   where
     status : (i j : Input T) (a : Answer O) → ItemRuns item i a j → j.status ≡ i.status
@@ -92,14 +94,15 @@ items_stateless {S} {T} {O} units alike item form s are self = record {
         (both_err alike e f refl, place ∙ sym other)
 
 -- and each item consumes
-pub items_move : {S T O : Type 0} (units : List T → ℕ) (item : Items T O) (form : ErrorForm)
-    (s : S) → AreItems units item → Moves units (Did (ItemDoes item) form) s
-items_move {S} {T} {O} units item form s are i j o t r =
-    by (item_run item form s i (Ok o) t j r).0
+pub items_move : {S T L O : Type 0} (reading : Reading T L) (item : Items T O) (form : ErrorForm)
+    (s : S) → AreItems reading.units item
+    → Moves reading.units (Ran reading (ItemDoes item) form) s
+items_move reading item form s are i j o t r =
+    by (item_run reading item form s i (Ok o) t j r).0
   where
-    by : ItemRuns item i (Ok o) j → units_left units j < units_left units i
+    by : ItemRuns item i (Ok o) j → units_left reading.units j < units_left reading.units i
     by (inl (q, rest, is, e, place)) =
-        subst (λ z. units_left units z < units_left units i) (sym place)
+        subst (λ z. units_left reading.units z < units_left reading.units i) (sym place)
         (are.some i.left.tokens q rest is)
     by (inr (none, e, place)) = ok_is_err refl e
 
@@ -139,15 +142,14 @@ gives_both_alike fold f single = record {
 
 -- ---- ends
 
-pub item_ends : {T O L : Type 0} (reading : Reading T L) (item : Items T O)
-    → ((p : Place) (n : ℕ) → reading.advance p n ≡ p)
-    → ((tokens rest : List T) (o : O) → item tokens o rest
-    → (front : List T) × (tokens ≡ front ++ rest)) → (i j : Input T) (a : Answer O)
-    → ItemRuns item i a j → IsEndOf reading j i
-item_ends {T} reading item still splits i j a (inl (o, rest, is, e, place)) =
-    let (front, split) = splits i.left.tokens rest o is in
-    let P : Input T → Type 0 = λ z. IsEndOf reading z i in
-    subst P (sym place) (record {
+-- in a stream that keeps no place, an item leaves an end
+pub item_end : {T O L : Type 0} (reading : Reading T L) (item : Items T O)
+    → ((p : Place) (n : ℕ) → reading.advance p n ≡ p) → AreItems reading.units item
+    → (i : Input T) (o : O) (rest : List T) → item i.left.tokens o rest
+    → IsEndOf reading (left_at i rest) i
+item_end reading item still are i o rest is =
+    let (front, split) = are.front i.left.tokens o rest is in
+    record {
       ends = record {
         dropped = front;
         tokens = split;
@@ -155,8 +157,7 @@ item_ends {T} reading item still splits i j a (inl (o, rest, is, e, place)) =
         possible = refl;
       };
       cut = refl;
-    })
-item_ends reading item still splits i j a (inr (none, e, place)) = same_ends reading i j place
+    }
 
 pub gives_ends : {T V L : Type 0} (reading : Reading T L) (given : V → Type 0) (i j : Input T)
     (a : Answer V) → Gives given i a j → IsEndOf reading j i

@@ -1,11 +1,12 @@
 -- Parts of an expression whose definition keeps their state, and what of them consumes input.
-use Rattle.std.specs.Prelude.{◌≡◌, ◌≤◌, ◌<◌, ℕ, Bool, true, false, List, Option, None, Ok, Err}
-use Rattle.std.proofs.Common.{refl, sym, ap, ◌∙◌, subst, inl, inr, arith}
+use Rattle.std.specs.Prelude.{◌≡◌, ◌<◌, ℕ, Bool, true, false, List, Option, None, Ok, Err}
+use Rattle.std.proofs.Common.{refl, sym, ap, ◌∙◌, subst, inl, inr}
 use Rattle.streams.specs.Input.{Input, Status}
 use Rattle.streams.specs.Kind.{Kind, backtrack, cut, incomplete, memory}
 use Rattle.streams.specs.Reading.{Reading}
 use Rattle.stream_errors.specs.Form.{Answer, ErrorForm, modal, plain}
 use Rattle.parser_definitions.specs.Alt.{AltDoes}
+use Rattle.parser_definitions.specs.Does.{Ran}
 use Rattle.parser_definitions.specs.Left.{End, Left, back, left_of}
 use Rattle.parser_definitions.specs.Literal.{LiteralDoes}
 use Rattle.parser_definitions.specs.Outcome.{Does, Outcome, Setting, asks, backs, cuts, lacks_by}
@@ -17,7 +18,6 @@ use Rattle.parser_definitions.specs.TryMap.{ValueDoes}
 use Rattle.winnow_core.specs.Decided.Inputs.{widened}
 use Rattle.winnow_core.specs.Runs.{Runs}
 use Rattle.winnow_core.specs.States.{pair_is}
-use Rattle.winnow_expression.specs.Did.{Did}
 use Rattle.winnow_expression.specs.Units.{units_left}
 use Rattle.winnow_expression_trees.specs.Premises.{IsStateless, NotMemory}
 
@@ -51,9 +51,9 @@ abbrev pub StaysBy : {S T O : Type 0} → Does S T O → S → Type 0
 StaysBy {S} {T} {O} does s = (at : Setting) (w : Left T) (y : Outcome (End S T) O)
     → does at s w y → LeavesAs s w.recorded y
 
-pub did_stays : {S T O : Type 0} (does : Does S T O) (form : ErrorForm) (s : S) → StaysBy does s
-    → Stays (Did does form) s
-did_stays {S} {T} {O} does form s stays i j a t (more, possible, did) other =
+pub did_stays : {S T L O : Type 0} (reading : Reading T L) (does : Does S T O) (form : ErrorForm)
+    (s : S) → StaysBy does s → Stays (Ran reading does form) s
+did_stays {S} {T} {O = O} reading does form s stays i j a t (ends, more, possible, did) other =
     by a other (stays (setting_of form i) (left_of i) (outcome_of a (t, left_of j)) did)
   where
     same : (t ≡ s) × (j.status.recorded ≡ i.status.recorded)
@@ -167,10 +167,3 @@ abbrev pub Moves : {S T O : Type 0} → (List T → ℕ) → Runs S T O → S �
 Moves {S} {T} {O} units run s =
     (i j : Input T) (o : O) (t : S) → run s i (Ok o) t j
     → units_left units j < units_left units i
-
--- what is shorter falls
-pub fewer_falls : {T : Type 0} (units : List T → ℕ) (i j : Input T)
-    → units_left units j < units_left units i
-    → (units_left units j ≤ units_left units i)
-    × (units_left units j ≡ units_left units i → j ≡ i)
-fewer_falls units i j less = (omega (arith, less), λ e. absurd (omega (arith, less, e)))

@@ -1,19 +1,20 @@
 -- Parts made of stateless parts are stateless.
-use Rattle.std.specs.Prelude.{◌≡◌, ⊤, ℕ, List, Ok, Err}
+use Rattle.std.specs.Prelude.{◌≡◌, ⊤, ℕ, Ok, Err}
 use Rattle.std.specs.declared.ops.Range.{Range}
 use Rattle.std.proofs.Common.{refl, sym, ap, ◌∙◌}
 use Rattle.streams.specs.Input.{Input}
 use Rattle.streams.specs.Kind.{backtrack, cut, incomplete, memory}
+use Rattle.streams.specs.Reading.{Reading}
 use Rattle.stream_errors.specs.Form.{Answer, ErrorForm}
 use Rattle.parser_definitions.specs.Cases.{fails_law}
-use Rattle.parser_definitions.specs.Does.{Lawful}
+use Rattle.parser_definitions.specs.Does.{Lawful, Ran}
 use Rattle.parser_definitions.specs.Eof.{FailDoes}
 use Rattle.parser_definitions.specs.Left.{left_of}
 use Rattle.parser_definitions.specs.Outcome.{Alike, Does, outcome_of, setting_of}
 use Rattle.winnow_core.specs.Decided.{EqualResults}
 use Rattle.winnow_core.specs.Runs.{Runs}
-use Rattle.winnow_expression.specs.Did.{Did, here, is_here}
-use Rattle.winnow_expression_trees.specs.Premises.Decided.{Moves, Stays, did_stays, leaves_by}
+use Rattle.winnow_expression.specs.Did.{here, is_here}
+use Rattle.winnow_expression_trees.specs.Premises.Decided.{Stays, did_stays, leaves_by}
 use Rattle.winnow_expression_trees.specs.Premises.{IsStateless, NotMemory}
 
 -- the results of equal outcomes, neither of which is out of memory
@@ -51,31 +52,28 @@ stateless_within within c = record {
 }
 
 -- a part that the law of its definition makes deterministic, in a state that its calls keep
-pub law_stateless : {S T O : Type 0} {does : Does S T O} {stable : Type 0}
+pub law_stateless : {S T L O : Type 0} (reading : Reading T L) {does : Does S T O} {stable : Type 0}
     {alike : O → O → Type 0} → Lawful stable alike does → (form : ErrorForm) (s : S)
-    → Stays (Did does form) s → IsStateless alike (Did does form) s
-law_stateless {alike = alike} law form s stays = record {
+    → Stays (Ran reading does form) s → IsStateless alike (Ran reading does form) s
+law_stateless reading {alike = alike} law form s stays = record {
   keeps = stays;
   decided = λ i j k a b t u r q na nb.
       let at = setting_of form i in
       let both = answers alike a b (t, left_of j) (u, left_of k) na nb
-      (law.one at s (left_of i) (outcome_of a (t, left_of j)) (outcome_of b (u, left_of k)) r.2
-      q.2) in (
+      (law.one at s (left_of i) (outcome_of a (t, left_of j)) (outcome_of b (u, left_of k)) r.3
+      q.3) in (
         both.0,
-        is_here at r.0 r.1 ∙ ap (λ e. here at e.1) both.1 ∙ sym (is_here at q.0 q.1),
+        is_here at r.1 r.2 ∙ ap (λ e. here at e.1) both.1 ∙ sym (is_here at q.1 q.2),
       );
 }
 
 -- the parser that fails, as where no operator was set
-pub fail_stateless : {S T O : Type 0} (alike : O → O → Type 0) (form : ErrorForm) (s : S)
-    → IsStateless {T = T} alike (Did FailDoes form) s
-fail_stateless alike form s =
-    law_stateless (fails_law {stable = ⊤} {alike = alike} (λ s at w. ⊤) (λ is more flag s w a. tt))
-    form s (did_stays FailDoes form s (λ at w y (is, e). leaves_by s w.recorded e (refl, refl)))
-
-pub fail_moves : {S T O : Type 0} (units : List T → ℕ) (form : ErrorForm) (s : S)
-    → Moves {O = O} units (Did FailDoes form) s
-fail_moves units form s i j o t (more, possible, (is, e)) = absurd (cc)
+pub fail_stateless : {S T L O : Type 0} (reading : Reading T L) (alike : O → O → Type 0)
+    (form : ErrorForm) (s : S) → IsStateless alike (Ran reading FailDoes form) s
+fail_stateless reading alike form s =
+    law_stateless reading
+    (fails_law {stable = ⊤} {alike = alike} (λ s at w. ⊤) (λ is more flag s w a. tt)) form s
+    (did_stays reading FailDoes form s (λ at w y (is, e). leaves_by s w.recorded e (refl, refl)))
 
 -- ---- outputs made of another, and of where that was read
 

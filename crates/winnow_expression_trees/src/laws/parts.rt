@@ -1,7 +1,7 @@
 //! Parsers as parts of an expression: which of them meet the requirements of the laws of trees.
 ghost use Rattle.std.specs.Prelude.{◌≡◌, ℕ};
 ghost use Rattle.streams.specs.Bytes.{bytes_reading};
-ghost use Rattle.winnow_expression.specs.Did.{Did};
+ghost use Rattle.parser_definitions.specs.Does.{Ran};
 ghost use Rattle.winnow_expression_trees.specs.Premises.{IsStateless};
 ghost use Rattle.winnow_expression_trees.specs.Premises.Decided.{Moves, Stays};
 ghost use Rattle.winnow_expression_trees.specs.Premises.Laws.{AlikeWithSpan};
@@ -27,8 +27,8 @@ type Bytes = &'static [u8];
 /// deterministic_parts_are_stateless::<Digit1, &[u8], &[u8], EmptyError>();
 /// ```
 pub fn deterministic_parts_are_stateless<P: Parser<I, O, E>, I: Stream, O, E: ParserError<I>>()
-    ensures { (s : P.State) → P.terms.premise → Stays (Did P.does E.form) s
-        → IsStateless P.terms.alike (Did P.does E.form) s }
+    ensures { (s : P.State) → P.terms.premise → Stays (Ran I.reading P.does E.form) s
+        → IsStateless P.terms.alike (Ran I.reading P.does E.form) s }
 {}
 
 /// States that the span of a stateless part is stateless, alone and with the output: calls on one
@@ -54,12 +54,12 @@ pub fn spans_are_stateless<
     E: ParserError<I>,
     A: Likeness<O>,
 >()
-    ensures span { (s : P.State) → IsStateless A.alike (Did P.does E.form) s
+    ensures span { (s : P.State) → IsStateless A.alike (Ran I.reading P.does E.form) s
         → IsStateless (λ u v. u ≡ v)
-        (Did ⟦<Span<P, I, O, E> as Parser<I, Range<usize>, E>>⟧.does E.form) s }
-    ensures with_span { (s : P.State) → IsStateless A.alike (Did P.does E.form) s
+        (Ran I.reading ⟦<Span<P, I, O, E> as Parser<I, Range<usize>, E>>⟧.does E.form) s }
+    ensures with_span { (s : P.State) → IsStateless A.alike (Ran I.reading P.does E.form) s
         → IsStateless (AlikeWithSpan A.alike)
-        (Did ⟦<WithSpan<P, I, O, E> as Parser<I, (O, Range<usize>), E>>⟧.does E.form) s }
+        (Ran I.reading ⟦<WithSpan<P, I, O, E> as Parser<I, (O, Range<usize>), E>>⟧.does E.form) s }
 {}
 
 /// States that a byte consumes input if it is returned.
@@ -71,7 +71,7 @@ pub fn spans_are_stateless<
 /// ```
 pub fn a_byte_consumes<E: ParserError<Bytes>>()
     ensures { (b : ℕ) → Moves bytes_reading.units
-        (Did ⟦<u8 as Parser<Bytes, u8, E>>⟧.does E.form) b }
+        (Ran bytes_reading ⟦<u8 as Parser<Bytes, u8, E>>⟧.does E.form) b }
 {}
 
 /// States that a parser whose output is replaced with a value consumes input if the original one
@@ -84,8 +84,9 @@ pub fn a_byte_consumes<E: ParserError<Bytes>>()
 /// a_value_consumes::<&[u8], u8, &str, u8, EmptyError>();
 /// ```
 pub fn a_value_consumes<I: Stream, O: Drop, U: Clone, P: Parser<I, O, E>, E: ParserError<I>>()
-    ensures { (s : P.State) (x : U) → Moves I.reading.units (Did P.does E.form) s
-        → Moves I.reading.units (Did ⟦<Value<P, I, O, U, E> as Parser<I, U, E>>⟧.does E.form)
+    ensures { (s : P.State) (x : U) → Moves I.reading.units (Ran I.reading P.does E.form) s
+        → Moves I.reading.units
+        (Ran I.reading ⟦<Value<P, I, O, U, E> as Parser<I, U, E>>⟧.does E.form)
         (s, x) }
 {}
 
@@ -104,8 +105,8 @@ pub fn a_choice_consumes<
     P2: Parser<I, O, E>,
     E: ParserError<I>,
 >()
-    ensures { (s : P1.State) (u : P2.State) → Moves I.reading.units (Did P1.does E.form) s
-        → Moves I.reading.units (Did P2.does E.form) u
+    ensures { (s : P1.State) (u : P2.State) → Moves I.reading.units (Ran I.reading P1.does E.form) s
+        → Moves I.reading.units (Ran I.reading P2.does E.form) u
         → Moves I.reading.units
-        (Did ⟦<AltParser<(P1, P2), I, O, E> as Parser<I, O, E>>⟧.does E.form) (s, u) }
+        (Ran I.reading ⟦<AltParser<(P1, P2), I, O, E> as Parser<I, O, E>>⟧.does E.form) (s, u) }
 {}

@@ -1,4 +1,4 @@
-use Rattle.std.proofs.Common.{◌≡◌, ◌∙◌, ℤ, pos, subst}
+use Rattle.std.proofs.Common.{◌≡◌, ◌∙◌, ℤ, pos, refl, subst}
 use Rattle.std.specs.Prelude.{⊤}
 use Rattle.streams.specs.Text.{text_input, text_reading}
 use Rattle.streams.specs.Kind.{backtrack}
@@ -23,12 +23,14 @@ returns-clause-reads g c =
     sign_value mark_value pair_value l (text_input c.args.input.now.now)
     (answer_by (λ e. marked_kind e.is_memory) c.parse_next.result)
     (text_input c.parse_next.new.input.now)) zero
-    (items_exact text_reading plain backtrack NumberItem (CharItem sign_at) (CharItem mark_at)
+    (items_exact text_reading plain backtrack (λ p n. refl) NumberItem (CharItem sign_at)
+    (CharItem mark_at)
     (CharItem pair_at) sign_value mark_value pair_value tt tt tt tt number_items
     (char_items sign_at) (char_items mark_at) (char_items pair_at) level
     (text_input c.args.input.now.now) _ _ states
     (c.expression_is_unambiguous.ensures.exact state
-    (items_premises text_reading plain backtrack NumberItem (CharItem sign_at) (CharItem mark_at)
+    (items_premises text_reading plain backtrack (λ p n. refl) NumberItem (CharItem sign_at)
+    (CharItem mark_at)
     (CharItem pair_at) sign_value mark_value pair_value tt tt tt tt number_items
     (char_items sign_at) (char_items mark_at) (char_items pair_at) one_sign one_mark one_pair)
     _ _ later _ c.parse_next.ensures.ran))

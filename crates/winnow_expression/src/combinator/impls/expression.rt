@@ -1,11 +1,12 @@
 //! Operator expressions.
 ghost use Rattle.std.specs.Prelude.{◌≡◌, ℤ, pos};
-ghost use Rattle.parser_definitions.specs.Expression.{ExpressionDoes};
 ghost use Rattle.parser_definitions.specs.Expression.Laws.{OperatorsWhole, expression_law};
 ghost use Rattle.parser_definitions.specs.Expression.One.{OperatorsOne};
 ghost use Rattle.winnow_expression.specs.Definition.{operators};
+ghost use Rattle.winnow_expression.specs.Ending.{ending_law};
 ghost use Rattle.winnow_expression.specs.Expression.{infix_of, level_of, operand_of};
 ghost use Rattle.winnow_expression.specs.Expression.{postfix_of, prefix_of};
+ghost use Rattle.winnow_expression.specs.Parts.{PartsDo};
 ghost use Rattle.parser_definitions.specs.Terms.{no_claim, nothing_claimed};
 
 use crate::combinator::folds::{FoldBinary, FoldUnary};
@@ -210,8 +211,7 @@ impl<
       s.level,
     ) };
 
-    ghost does = { ExpressionDoes (operators I.reading.units F.folds G.folds H.folds) P.does
-        Pre.does Post.does Pix.does };
+    ghost does = { PartsDo I.reading P.does Pre.does Post.does Pix.does F.folds G.folds H.folds };
 
     // Equal operators have equal powers and folds with equal outcomes, and no fold is incomplete
     // on complete input. An expression is not stable, since an operator may follow.
@@ -227,8 +227,10 @@ impl<
 
     ghost lawful = { record {
       law = λ is. expression_law (operators I.reading.units F.folds G.folds H.folds) is.1
-          is.2 (P.lawful.law is.0.0) (Pre.lawful.law is.0.1) (Post.lawful.law is.0.2)
-          (Pix.lawful.law is.0.3);
+          is.2 (ending_law I.reading (P.lawful.law is.0.0))
+          (ending_law I.reading (Pre.lawful.law is.0.1))
+          (ending_law I.reading (Post.lawful.law is.0.2))
+          (ending_law I.reading (Pix.lawful.law is.0.3));
       claimed = λ _. nothing_claimed;
     } };
 

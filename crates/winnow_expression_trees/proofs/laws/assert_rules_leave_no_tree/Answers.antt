@@ -1,6 +1,7 @@
 use Rattle.std.proofs.Common.{Err}
 use Rattle.stream_errors.specs.Form.{assert_kind}
-use Rattle.winnow_expression.specs.Did.{Did}
+use Rattle.parser_definitions.specs.Does.{Ran}
+use Rattle.winnow_core.specs.Covers.{ran_ends}
 use Rattle.winnow_expression.specs.Did.Trees.{expression_came, expression_did}
 use Rattle.winnow_expression.specs.Parts.{did_grammar}
 use Rattle.winnow_expression_trees.proofs.FourParts.{plain_parts}
@@ -14,12 +15,14 @@ pub returns : goal.returns
 returns g c =
     let form = g.E.HasKind.form in
     let reading = g.I.Stream.reading in
-    let whole = did_grammar reading.units form g.P.Parser.does g.Pre.Parser.does g.Post.Parser.does
+    let whole = did_grammar reading form g.P.Parser.does g.Pre.Parser.does g.Post.Parser.does
     g.Pix.Parser.does g.F.FoldUnary.folds g.G.FoldUnary.folds g.H.FoldBinary.folds in
-    let plain = plain_parts reading.units (assert_kind form) (Did g.P.Parser.does form)
-    (Did g.Pre.Parser.does form) (Did g.Post.Parser.does form) (Did g.Pix.Parser.does form)
-    (g.F.FoldUnary.folds form) (g.G.FoldUnary.folds form) (g.H.FoldBinary.folds form)
-    g.A.Likeness.alike in
+    let plain = plain_parts reading (assert_kind form) (Ran reading g.P.Parser.does form)
+    (Ran reading g.Pre.Parser.does form) (Ran reading g.Post.Parser.does form)
+    (Ran reading g.Pix.Parser.does form) (g.F.FoldUnary.folds form) (g.G.FoldUnary.folds form)
+    (g.H.FoldBinary.folds form) g.A.Likeness.alike (ran_ends reading g.P.Parser.does form)
+    (ran_ends reading g.Pre.Parser.does form) (ran_ends reading g.Post.Parser.does form)
+    (ran_ends reading g.Pix.Parser.does form) in
     record {
       asserts = λ s pr i k t j runs.
           failure_excludes (plain s.0.0 s.0.1 s.1.0 s.1.1 pr) s.2 i k (t.0, t.1) j

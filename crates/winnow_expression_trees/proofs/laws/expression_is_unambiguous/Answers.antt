@@ -1,6 +1,7 @@
 use Rattle.std.proofs.Common.{Err}
 use Rattle.stream_errors.specs.Form.{assert_kind}
-use Rattle.winnow_expression.specs.Did.{Did}
+use Rattle.parser_definitions.specs.Does.{Ran}
+use Rattle.winnow_core.specs.Covers.{ran_ends}
 use Rattle.winnow_expression.specs.Did.Trees.{expression_came}
 use Rattle.winnow_expression_trees.proofs.EndsOnce.{ends_once}
 use Rattle.winnow_expression_trees.proofs.FourParts.{plain_parts}
@@ -11,10 +12,12 @@ pub returns : goal.returns
 returns g c =
     let form = g.E.HasKind.form in
     let reading = g.I.Stream.reading in
-    let plain = plain_parts reading.units (assert_kind form) (Did g.P.Parser.does form)
-    (Did g.Pre.Parser.does form) (Did g.Post.Parser.does form) (Did g.Pix.Parser.does form)
-    (g.F.FoldUnary.folds form) (g.G.FoldUnary.folds form) (g.H.FoldBinary.folds form)
-    g.A.Likeness.alike in
+    let plain = plain_parts reading (assert_kind form) (Ran reading g.P.Parser.does form)
+    (Ran reading g.Pre.Parser.does form) (Ran reading g.Post.Parser.does form)
+    (Ran reading g.Pix.Parser.does form) (g.F.FoldUnary.folds form) (g.G.FoldUnary.folds form)
+    (g.H.FoldBinary.folds form) g.A.Likeness.alike (ran_ends reading g.P.Parser.does form)
+    (ran_ends reading g.Pre.Parser.does form) (ran_ends reading g.Post.Parser.does form)
+    (ran_ends reading g.Pix.Parser.does form) in
     let came = expression_came reading form g.F.FoldUnary.folds g.G.FoldUnary.folds
     g.H.FoldBinary.folds g.P.Parser.does g.Pre.Parser.does g.Post.Parser.does g.Pix.Parser.does
     g.met.F.FoldUnary.leaves_ends g.met.G.FoldUnary.leaves_ends

@@ -3,5 +3,5 @@ use Rattle.winnow_expression_trees.proofs.laws.parts.a_choice_consumes.Goals as 
 
 pub returns : goal.returns
 returns g c s u one two =
-    choice_moves g.I.Stream.reading.units g.P1.Parser.does g.P2.Parser.does g.E.HasKind.form s u
+    choice_moves g.I.Stream.reading g.P1.Parser.does g.P2.Parser.does g.E.HasKind.form s u
     one two

@@ -3,5 +3,5 @@ use Rattle.winnow_expression_trees.proofs.laws.parts.a_value_consumes.Goals as g
 
 pub returns : goal.returns
 returns g c s x moves =
-    value_moves g.I.Stream.reading.units g.U.Clone.is_clone g.U.Clone.is_infallible
+    value_moves g.I.Stream.reading g.U.Clone.is_clone g.U.Clone.is_infallible
     g.P.Parser.does g.E.HasKind.form s x moves

@@ -3,4 +3,4 @@ use Rattle.winnow_expression_trees.proofs.laws.parts.deterministic_parts_are_sta
 
 pub returns : goal.returns
 returns g c s premise stays =
-    law_stateless (g.met.P.Parser.lawful.law premise) g.E.HasKind.form s stays
+    law_stateless g.I.Stream.reading (g.met.P.Parser.lawful.law premise) g.E.HasKind.form s stays

@@ -3,6 +3,8 @@ use Rattle.winnow_expression_trees.proofs.laws.parts.spans_are_stateless.Goals a
 
 pub returns : goal.returns
 returns g c = record {
-  span = λ s c. span_stateless g.P.Parser.does g.E.HasKind.form s g.A.Likeness.alike c;
-  with_span = λ s c. with_span_stateless g.P.Parser.does g.E.HasKind.form s g.A.Likeness.alike c;
+  span = λ s c. span_stateless g.I.Stream.reading g.P.Parser.does g.E.HasKind.form s
+      g.A.Likeness.alike c;
+  with_span = λ s c. with_span_stateless g.I.Stream.reading g.P.Parser.does g.E.HasKind.form s
+      g.A.Likeness.alike c;
 }

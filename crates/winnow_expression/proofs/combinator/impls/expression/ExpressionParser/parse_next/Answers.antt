@@ -1,6 +1,7 @@
 use Rattle.parser_definitions.specs.Places.{FirstDoes, NextDoes}
 use Rattle.std.proofs.Common.{rules}
 use Rattle.winnow_expression.specs.Covers.Trees.{trees_ran}
+use Rattle.winnow_expression.specs.Ending.{Ending}
 use Rattle.winnow_expression.proofs.combinator.impls.expression.ExpressionParser.parse_next.Goals as goal
 
 pub returns-clause-ran : goal.returns-clause-ran
@@ -8,9 +9,11 @@ returns-clause-ran g c =
     let first = c.args.self.now.first in
     let next = c.args.self.now.next in
     let later = c.expression_from.new in
-    trees_ran g.I.Stream.reading g.E.HasKind.form g.F.FoldUnary.folds g.G.FoldUnary.folds
-    g.H.FoldBinary.folds (FirstDoes g.P.Parser.does g.Pre.Parser.does)
-    (NextDoes g.I.Stream.reading.units g.Post.Parser.does g.Pix.Parser.does)
+    let reading = g.I.Stream.reading in
+    trees_ran reading g.E.HasKind.form g.F.FoldUnary.folds g.G.FoldUnary.folds
+    g.H.FoldBinary.folds
+    (FirstDoes (Ending reading g.P.Parser.does) (Ending reading g.Pre.Parser.does))
+    (NextDoes reading.units (Ending reading g.Post.Parser.does) (Ending reading g.Pix.Parser.does))
     g.met.F.FoldUnary.leaves_ends g.met.G.FoldUnary.leaves_ends g.met.H.FoldBinary.leaves_ends
     c.args.self.now.level _ (
       (g.P.Parser.state first.operand, g.Pre.Parser.state first.prefix),
