@@ -3,6 +3,7 @@
 
 pub mod choices;
 pub mod complete_streams;
+pub mod derivations;
 pub mod first_line;
 pub mod folds;
 pub mod functions;
