@@ -9,7 +9,7 @@
 //! `LineEnd::Lf` lines end with a line feed. Records may differ in their number of fields.
 #![tactic(auto)]
 
-ghost use Rattle.std.specs.Prelude.{MatchResult, ⊤};
+ghost use Rattle.std.specs.Prelude.{◌≡◌, MatchResult, OnErr, ⊤};
 ghost use Rattle.streams.specs.Bytes.{bytes_input, bytes_reading};
 ghost use Rattle.format_csv.specs.Csv.{AreRecords, IsRecord, bytes_of, commas};
 ghost use Rattle.format_csv.specs.Read.{record_takes, record_unique};
@@ -82,7 +82,8 @@ impl<'i, A: Allocator> Rule<&'i [u8], Record<A>> for Line<A> {
 }
 
 /// Parses the record at the start of the input. It must be followed by a line ending, which is
-/// consumed, or by the end of the input. Empty input does not start with a record.
+/// consumed, or by the end of the input. Empty input does not start with a record. On an error the
+/// input is unchanged.
 ///
 /// ```
 /// use format_csv::{LineEnd, read_record};
@@ -97,8 +98,9 @@ pub fn read_record<'i, A: Allocator + Copy>(
     end: LineEnd,
     input: &mut &'i [u8],
 ) -> Result<Record<A>, ErrMode<EmptyError>>
-    ensures { Reads bytes_reading ⟦<ErrMode<EmptyError> as HasKind>⟧.kind (IsRecord end)
+    ensures reads { Reads bytes_reading ⟦<ErrMode<EmptyError> as HasKind>⟧.kind (IsRecord end)
         (bytes_input input.old.now) result (bytes_input input.new.now) }
+    ensures unchanged { OnErr result (input.new.now ≡ input.old.now) }
 {
     if input.is_empty() {
         return Err(ParserError::<&'i [u8]>::from_input(input));

@@ -30,8 +30,8 @@ again {T = T} {reading = reading} one others {form} s t i a m j u v answer
     let (end, flag, readable, does) = subst P there ran in
     (is_end_of_trans end (is_end_of_back refl ends), flag ∙ partial, readable, subst Q partial does)
 
-module _ {S1 S2 T L O : Type 0} {reading : Reading T L} {one : Does S1 T O} {others : Does S2 T O}
-    {form : ErrorForm} {s t : S1 × S2} {i j : Input T} {answer : Answer O} where
+module _ {S1 S2 T L O : Type 0} {reading : Reading T L} (one : Does S1 T O) (others : Does S2 T O)
+    {form : ErrorForm} (s t : S1 × S2) (i j : Input T) (answer : Answer O) where
   -- the branch does not backtrack
   pub alt_here : Ran reading one form s.0 i answer t.0 j → (answer ≡ Err backtrack → ⊥)
       → t.1 ≡ s.1 → Ran reading (AltDoes one others) form s i answer t j
@@ -54,11 +54,11 @@ module _ {S1 S2 T L O : Type 0} {reading : Reading T L} {one : Does S1 T O} {oth
       by (Err memory) stays = refl
 
   -- it backtracks, and the others answer from the start
-  pub alt_next : {m : Input T} {start : Remaining T} → start ≡ i.left
+  pub alt_next : (m : Input T) (start : Remaining T) → start ≡ i.left
       → (a : Input T) × Ran reading one form s.0 i (Err backtrack) t.0 a × (m ≡ back_at start a)
       → Ran reading others form s.1 m answer t.1 j
       → Ran reading (AltDoes one others) form s i answer t j
-  alt_next {m = m} from (a, ran, there) after =
+  alt_next m start from (a, ran, there) after =
       let (ends, partial, possible, did) = again one others s.0 t.0 i a m j s.1 t.1 answer ran
       (there ∙ ap (λ x. back_at x a) from) after in (
         ends,
