@@ -81,7 +81,7 @@ impl<
     } };
 
     ghost lawful = { record {
-      law = λ is. N.lawful.law;
+      law = λ is. N.lawful;
       claimed = λ s. record {
         projects = λ at is. record { reads = N.reads at s; unique = N.unique s };
         takes = λ is some. N.takes s some;
