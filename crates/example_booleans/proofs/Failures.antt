@@ -1,14 +1,15 @@
 -- Errors of an expression of items whose folds never fail. They occur at an offset where an operand
 -- is expected, and neither an operand nor a prefix operator begins.
-use Rattle.std.specs.Prelude.{◌≡◌, ◌⊎◌, ℤ, Bool, true, false, List, Result, Ok, Err, IfErr}
+use Rattle.std.specs.Prelude.{◌≡◌, ◌⊎◌, ℕ, ℤ, Bool, true, false, List, Result, Ok, Err, IfErr}
 use Rattle.std.specs.Prelude.{⊤}
 use Rattle.std.proofs.Common.{refl, sym, ◌∙◌, subst, inl, inr, arith}
 use Rattle.streams.specs.Input.{Input, back_at}
 use Rattle.streams.specs.Kind.{Kind, backtrack, cut, incomplete, memory}
+use Rattle.streams.specs.Place.{Place}
 use Rattle.streams.specs.Reading.{Reading}
 use Rattle.stream_errors.specs.Form.{Answer, ErrorForm, answer_by}
 use Rattle.stream_errors.specs.Form.Inversion.{ok_is_err}
-use Rattle.winnow_expression.specs.Did.{Did}
+use Rattle.parser_definitions.specs.Does.{Ran}
 use Rattle.winnow_expression.specs.Grammar.{Grammar}
 use Rattle.winnow_expression.specs.Operators.{fold_of}
 use Rattle.winnow_expression.specs.Parts.{parts_grammar}
@@ -40,6 +41,7 @@ use Rattle.winnow_expression_trees.specs.Premises.{NotMemory}
 use Rattle.winnow_expression_trees.specs.Reading.{FirstStep, NextStep}
 
 module _ {T V F G H L : Type 0} (reading : Reading T L) (form : ErrorForm) (refusal : Kind)
+    (still : (p : Place) (n : ℕ) → reading.advance p n ≡ p)
     (operand : Items T V) (prefix : Items T (Prefix F)) (postfix : Items T (Postfix G))
     (infix_ : Items T (Infix H)) (one : F → V → V → Type 0) (other : G → V → V → Type 0)
     (two : H → V → V → V → Type 0) (operands : AreItems reading.units operand)
@@ -49,9 +51,9 @@ module _ {T V F G H L : Type 0} (reading : Reading T L) (form : ErrorForm) (refu
     (others : (g : G) (v : V) → (x : V) × other g v x)
     (twos : (h : H) (v w : V) → (x : V) × two h v w x) where
   abbrev whole : Grammar (⊤ × ⊤) (⊤ × ⊤) T V F G H
-  whole = parts_grammar reading.units refusal (Did (ItemDoes operand) form)
-      (Did (ItemDoes prefix) form) (Did (ItemDoes postfix) form)
-      (Did (ItemDoes infix_) form) (λ f i v a j. Gives (one f v) i a j)
+  whole = parts_grammar reading.units refusal (Ran reading (ItemDoes operand) form)
+      (Ran reading (ItemDoes prefix) form) (Ran reading (ItemDoes postfix) form)
+      (Ran reading (ItemDoes infix_) form) (λ f i v a j. Gives (one f v) i a j)
       (λ g i v a j. Gives (other g v) i a j) (λ h i v w a j. Gives (two h v w) i a j)
 
   abbrev states : (⊤ × ⊤) × (⊤ × ⊤)
@@ -61,14 +63,14 @@ module _ {T V F G H L : Type 0} (reading : Reading T L) (form : ErrorForm) (refu
   first_items : (i j : Input T) (x : First V F) → whole.first (tt, tt) i (Ok x) (tt, tt) j
       → FirstItems operand prefix i.left.tokens x j.left.tokens
   first_items i j x read =
-      (first_read reading form refusal operand prefix postfix infix_ one other two states.0.0
+      (first_read reading form refusal still operand prefix postfix infix_ one other two states.0.0
       states.0.1
       states.1.0 states.1.1 operands prefixes postfixes infixes i j x read).0
 
   next_items : (i j : Input T) (x : Next G H) → NextStep whole states i x j
       → NextItems postfix infix_ i.left.tokens x j.left.tokens
   next_items i j x read =
-      (next_down reading form refusal operand prefix postfix infix_ one other two states.0.0
+      (next_down reading form refusal still operand prefix postfix infix_ one other two states.0.0
       states.0.1
       states.1.0 states.1.1 operands prefixes postfixes infixes i j x read).0
 
@@ -161,14 +163,16 @@ module _ {T V F G H L : Type 0} (reading : Reading T L) (form : ErrorForm) (refu
       → (kind ≡ backtrack) × (j ≡ k) × NoItem operand k.left.tokens × NoItem prefix k.left.tokens
   missing i k j kind t (inl (v, run, kept, e)) = ok_is_err e refl
   missing i k j kind t (inr (inl (l, run, unlike, kept, e))) =
-      absurd (unlike (item_err operand k j l (item_run operand form tt k (Err l) t.0 j run).0).2)
+      absurd (unlike
+      (item_err operand k j l
+      (item_run reading operand form tt k (Err l) t.0 j run).0).2)
   missing i k j kind t (inr (inr (inl (m, p, run, q, e)))) = ok_is_err e refl
   missing i k j kind t (inr (inr (inr (m, l, run, q, e)))) =
       let none = item_err operand k m backtrack
-      (item_run operand form tt k (Err backtrack) t.0 m run).0 in
+      (item_run reading operand form tt k (Err backtrack) t.0 m run).0 in
       let (nothing, place, is) = item_err prefix k j l
       (subst (λ y. ItemRuns prefix y (Err l) j) (back_same k m none.1)
-      (item_run prefix form tt (back_at k.left m) (Err l) t.1 j q).0) in
+      (item_run reading prefix form tt (back_at k.left m) (Err l) t.1 j q).0) in
       let told : kind ≡ l = cc in
       (told ∙ is, place, none.0, nothing)
 
@@ -176,11 +180,11 @@ module _ {T V F G H L : Type 0} (reading : Reading T L) (form : ErrorForm) (refu
   never k j kind t (inl (none, e, kept, place)) = ok_is_err e refl
   never k j kind t (inr (some, inl (p, run, kept, e))) = ok_is_err e refl
   never k j kind t (inr (some, inr (inl (l, run, unlike, kept, e)))) =
-      unlike (item_err postfix k j l (item_run postfix form tt k (Err l) t.0 j run).0).2
+      unlike (item_err postfix k j l (item_run reading postfix form tt k (Err l) t.0 j run).0).2
   never k j kind t (inr (some, inr (inr (m, run, inl (o, q, e))))) = ok_is_err e refl
   never k j kind t (inr (some, inr (inr (m, run, inr (inl (l, q, unlike, e)))))) =
       unlike (item_err infix_ (back_at k.left m) j l
-      (item_run infix_ form tt (back_at k.left m) (Err l) t.1 j q).0).2
+      (item_run reading infix_ form tt (back_at k.left m) (Err l) t.1 j q).0).2
   never k j kind t (inr (some, inr (inr (m, run, inr (inr (n, q, place, e)))))) = ok_is_err e refl
 
   pub ended_at_items : (i : Input T) (kind : Kind) (j : Input T) → EndedBy whole states i kind j

@@ -1,5 +1,5 @@
 //! The place of a word in a stream: a call that reads by a grammar says between which places.
-ghost use Rattle.winnow.specs.Did.{Did};
+ghost use Rattle.winnow.specs.Does.{Ran};
 ghost use Rattle.std.specs.Prelude.{false, IfErr, IfOk};
 ghost use Rattle.std.specs.Prelude.{◌≡◌};
 ghost use Rattle.example_callers.specs.Places.{IsPlaced, KeyAndMark};
@@ -94,7 +94,7 @@ where
     I: StreamIsPartial + Compare<u8> + Location,
     E: ParserError<I>,
     ensures { IsStateless (λ u v. u ≡ v)
-        (Did ⟦<Span<u8, I, u8, E> as Parser<I, Range<usize>, E>>⟧.does E.form) 43 }
+        (Ran I.reading ⟦<Span<u8, I, u8, E> as Parser<I, Range<usize>, E>>⟧.does E.form) 43 }
 {
     deterministic_parts_are_stateless::<u8, I, u8, E>();
     spans_are_stateless::<u8, I, u8, E, Equal>();

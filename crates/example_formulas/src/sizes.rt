@@ -7,12 +7,12 @@ ghost use Rattle.winnow.specs.Bytes.{bytes_input, bytes_reading};
 ghost use Rattle.winnow.specs.Input.{IsEndOf};
 ghost use Rattle.example_formulas.specs.Sizes.{HasOneTree, SizeStates, marks_of, sign_marks};
 ghost use Rattle.example_formulas.specs.Sizes.{sign_value, size_states, unit_marks, unit_value};
-ghost use Rattle.winnow.specs.Did.{Did};
+ghost use Rattle.winnow.specs.Does.{Ran};
 ghost use Rattle.winnow.specs.Parts.{did_grammar};
 ghost use Rattle.winnow.specs.Items.{Gives};
 ghost use Rattle.winnow.specs.Items.Premises.{gives_ends};
 ghost use Rattle.winnow.specs.OneTree.{IsTheOneTree};
-ghost use Rattle.winnow.specs.Premises.Decided.{Moves, Stays};
+ghost use Rattle.winnow.specs.Premises.Decided.{Stays};
 
 use std::alloc::Allocator;
 use winnow::Parser;
@@ -122,20 +122,14 @@ fn sign_clones_are_equal()
 
 /// States that a call of the parser of a number keeps its state and the input's status.
 fn a_number_stays<O: Uint>()
-    ensures { Stays (Did ⟦<DecUint as Parser<Bytes, O, EmptyError>>⟧.does plain) tt }
-{}
-
-/// States that a number consumes input if it is returned.
-fn a_number_consumes<O: Uint>()
-    ensures { Moves bytes_reading.units (Did ⟦<DecUint as Parser<Bytes, O, EmptyError>>⟧.does
-        plain) tt }
+    ensures { Stays (Ran bytes_reading ⟦<DecUint as Parser<Bytes, O, EmptyError>>⟧.does plain) tt }
 {}
 
 /// States that a call of two marks keeps its state and the input's status, unless it is out of
 /// memory.
 fn marks_stay<O: Clone>()
     ensures { (x : ℕ) (y : ℕ) (u : O) (v : O)
-        → Stays (Did ⟦<Marks<Bytes, O> as Parser<Bytes, O, EmptyError>>⟧.does plain)
+        → Stays (Ran bytes_reading ⟦<Marks<Bytes, O> as Parser<Bytes, O, EmptyError>>⟧.does plain)
         ((x, u), (y, v)) }
 {}
 
@@ -173,7 +167,7 @@ fn signs<'i>() -> Marks<&'i [u8], Infix<Sign>>
 /// assert_eq!(rt; input, b";".as_slice());
 /// ```
 pub fn read_size<'i, A: Allocator + Copy>(alloc: A, input: &mut &'i [u8]) -> Result<u32, EmptyError>
-    ensures reads { (t : SizeStates) × IsTheOneTree (did_grammar bytes_reading.units plain
+    ensures reads { (t : SizeStates) × IsTheOneTree (did_grammar bytes_reading plain
         ⟦<DecUint as Parser<Bytes, u32, EmptyError>>⟧.does
         ⟦<Fail as Parser<Bytes, Prefix<NoFold>, EmptyError>>⟧.does
         ⟦<Marks<Bytes, Postfix<Scale>> as Parser<Bytes, Postfix<Scale>, EmptyError>>⟧.does
@@ -188,7 +182,6 @@ pub fn read_size<'i, A: Allocator + Copy>(alloc: A, input: &mut &'i [u8]) -> Res
     unit_clones_are_equal();
     sign_clones_are_equal();
     a_number_stays::<u32>();
-    a_number_consumes::<u32>();
     marks_stay::<Postfix<Scale>>();
     marks_stay::<Infix<Sign>>();
     deterministic_parts_are_stateless::<DecUint, &'i [u8], u32, EmptyError>();
@@ -213,14 +206,6 @@ pub fn read_size<'i, A: Allocator + Copy>(alloc: A, input: &mut &'i [u8]) -> Res
         Mark<&'i [u8], Infix<Sign>>,
         EmptyError,
     >();
-    a_value_consumes::<&'i [u8], u8, Postfix<Scale>, u8, EmptyError>();
-    a_choice_consumes::<
-        &'i [u8],
-        Postfix<Scale>,
-        Mark<&'i [u8], Postfix<Scale>>,
-        Mark<&'i [u8], Postfix<Scale>>,
-        EmptyError,
-    >();
     expression_is_unambiguous::<
         &'i [u8],
         u32,
@@ -242,7 +227,7 @@ pub fn read_size<'i, A: Allocator + Copy>(alloc: A, input: &mut &'i [u8]) -> Res
 /// start of the input respects precedence at a given least power, and it ends at one position.
 /// This holds also if the value does not fit in 32 bits.
 pub fn a_size_has_one_tree()
-    ensures one { HasOneTree (did_grammar bytes_reading.units plain
+    ensures one { HasOneTree (did_grammar bytes_reading plain
         ⟦<DecUint as Parser<Bytes, u32, EmptyError>>⟧.does
         ⟦<Fail as Parser<Bytes, Prefix<NoFold>, EmptyError>>⟧.does
         ⟦<Marks<Bytes, Postfix<Scale>> as Parser<Bytes, Postfix<Scale>, EmptyError>>⟧.does

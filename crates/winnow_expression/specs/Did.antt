@@ -3,24 +3,15 @@ use Rattle.std.specs.Prelude.{◌≡◌, Bool, Ok, Err}
 use Rattle.std.proofs.Common.{refl, sym, subst, ap, ◌∙◌}
 use Rattle.streams.specs.Input.{Input}
 use Rattle.streams.specs.Kind.{backtrack, cut, incomplete, memory}
-use Rattle.stream_errors.specs.Form.{Answer, ErrorForm}
+use Rattle.stream_errors.specs.Form.{Answer}
 use Rattle.parser_definitions.specs.Left.{End, Left, left_of}
-use Rattle.parser_definitions.specs.Outcome.{Does, Outcome, Setting, asks, backs, cuts, outcome_of}
-use Rattle.parser_definitions.specs.Outcome.{setting_of, took, wants}
+use Rattle.parser_definitions.specs.Outcome.{Outcome, Setting, asks, backs, cuts, outcome_of}
+use Rattle.parser_definitions.specs.Outcome.{took, wants}
 use Rattle.parser_definitions.specs.Then.{ComesOf}
 use Rattle.parser_definitions.specs.Then.Steps.{hands_on}
-use Rattle.winnow_core.specs.Runs.{Runs}
 pub mod Parts
 pub mod Steps
 pub mod Trees
-
--- A call with an outcome that the definition allows, in a setting that stays. Every call of a
--- parser
--- is one, and leaves an end of the input (`Ran`).
-abbrev pub Did : {S T O : Type 0} → Does S T O → ErrorForm → Runs S T O
-Did does form s i answer t j =
-    (j.status.cut ≡ i.status.cut) × (j.left.possible ≡ i.left.possible)
-    × does (setting_of form i) s (left_of i) (outcome_of answer (t, left_of j))
 
 -- ---- inputs of a setting
 

@@ -1,6 +1,6 @@
--- Parts that leave an end of the input.
+-- Parts that leave a suffix of the input.
 use Rattle.std.specs.Prelude.{⊤, ◌++◌, Bool, List, Ok, Err}
-use Rattle.std.proofs.Common.{refl, subst, ap, ◌∙◌, append_assoc}
+use Rattle.std.proofs.Common.{refl, ap, ◌∙◌, append_assoc}
 use Rattle.streams.specs.Input.{Input, IsEndOf}
 use Rattle.streams.specs.Kind.{backtrack, cut, incomplete, memory}
 use Rattle.streams.specs.Reading.{Reading}
@@ -10,10 +10,9 @@ use Rattle.parser_definitions.specs.Left.{End, Left, extend, left_of}
 use Rattle.parser_definitions.specs.Outcome.{Does, IsFinal, Outcome, Setting, asks, backs, cuts}
 use Rattle.parser_definitions.specs.Outcome.{grown, longer, on_cut, outcome_of, setting_of, took}
 use Rattle.parser_definitions.specs.Outcome.{wants}
-use Rattle.winnow_core.specs.Covers.{Covers, at_setting}
 use Rattle.winnow_expression.specs.Did.{here}
 
--- What remains in an outcome is an end of the input.
+-- The outcome leaves a suffix of the input, unless it is out of memory.
 abbrev pub LeavesEnd : {S T L O : Type 0} → Reading T L → Setting → Left T
     → Outcome (End S T) O → Type 0
 LeavesEnd reading at w (took o e) = IsEndOf reading (here at e.1) (here at w)
@@ -22,7 +21,7 @@ LeavesEnd reading at w (cuts e) = IsEndOf reading (here at e.1) (here at w)
 LeavesEnd reading at w (asks need e) = IsEndOf reading (here at e.1) (here at w)
 LeavesEnd reading at w wants = ⊤
 
--- The definition of a part, as far as what remains is an end.
+-- The definition of a part, restricted to the outcomes that leave a suffix.
 abbrev pub Ending : {S T L O : Type 0} → Reading T L → Does S T O → Does S T O
 Ending reading does at s w y = does at s w y × LeavesEnd reading at w y
 
@@ -58,37 +57,27 @@ ending_law {S} {T} {O = O} reading law = record {
     leaves more flag w (asks need e) final end = absurd final
     leaves more flag w wants final end = absurd final
 
--- Every call is so.
-module _ {S T L O : Type 0} (reading : Reading T L) (does : Does S T O) where
-  pub ran_ending : (form : ErrorForm) (s : S) (i : Input T) (a : Answer O) (t : S) (j : Input T)
-      → Ran reading does form s i a t j
-      → Ending reading does (setting_of form i) s (left_of i) (outcome_of a (t, left_of j))
-  ran_ending form s i a t j (ends, more, possible, did) = (did, by a)
-    where
-      end : IsEndOf reading (here (setting_of form i) (left_of j)) i
-      end = record {
-        ends = record {
-          dropped = ends.ends.dropped;
-          tokens = ends.ends.tokens;
-          place = ends.ends.place;
-          possible = refl;
-        };
-        cut = refl;
-      }
+-- every call has one
+pub ran_ending : {S T L O : Type 0} (reading : Reading T L) (does : Does S T O) (form : ErrorForm)
+    (s : S) (i : Input T) (a : Answer O) (t : S) (j : Input T) → Ran reading does form s i a t j
+    → Ending reading does (setting_of form i) s (left_of i) (outcome_of a (t, left_of j))
+ran_ending {S} {T} {O = O} reading does form s i a t j (ends, more, possible, did) = (did, by a)
+  where
+    end : IsEndOf reading (here (setting_of form i) (left_of j)) i
+    end = record {
+      ends = record {
+        dropped = ends.ends.dropped;
+        tokens = ends.ends.tokens;
+        place = ends.ends.place;
+        possible = refl;
+      };
+      cut = refl;
+    }
 
-      by : (a : Answer O)
-          → LeavesEnd reading (setting_of form i) (left_of i) (outcome_of a (t, left_of j))
-      by (Ok o) = end
-      by (Err backtrack) = end
-      by (Err cut) = end
-      by (Err (incomplete need)) = end
-      by (Err memory) = tt
-
-  pub ending_covers : (at : Setting) → Covers at (Ran reading does at.form) (Ending reading does)
-  ending_covers at = record {
-    covers = λ s i a t j start ran. (
-      subst (λ z. Ending reading does z s (left_of i) (outcome_of a (t, left_of j)))
-          (at_setting start) (ran_ending at.form s i a t j ran),
-      record { more = ran.1 ∙ start.more; possible = ran.2 ∙ start.possible },
-    );
-  }
+    by : (a : Answer O)
+        → LeavesEnd reading (setting_of form i) (left_of i) (outcome_of a (t, left_of j))
+    by (Ok o) = end
+    by (Err backtrack) = end
+    by (Err cut) = end
+    by (Err (incomplete need)) = end
+    by (Err memory) = tt

@@ -1,6 +1,7 @@
 -- The results of folds.
 use Rattle.std.specs.Prelude.{◌≡◌, Err}
-use Rattle.streams.specs.Input.{Input}
+use Rattle.streams.specs.Input.{Input, IsEndOf}
+use Rattle.streams.specs.Reading.{Reading}
 use Rattle.stream_errors.specs.Form.{Answer, ErrorForm, assert_kind}
 
 -- The result of a fold of one operand, and the input that it leaves, by the form of the errors.
@@ -19,3 +20,13 @@ RefusesUnary form i v answer j = (answer ≡ Err (assert_kind form)) × (j ≡ i
 abbrev pub RefusesBinary : {T V : Type 0} → ErrorForm → Input T → V → V → Answer V → Input T
     → Type 0
 RefusesBinary form i v w answer j = (answer ≡ Err (assert_kind form)) × (j ≡ i)
+
+-- Folds leave suffixes of their input.
+pub record FoldsLeaveEnds {T L V F G H : Type 0} (reading : Reading T L) (one : DoesUnary F T V)
+    (other : DoesUnary G T V) (two : DoesBinary H T V) : Type 0 where
+  pub before : (form : ErrorForm) (f : F) (i : Input T) (v : V) (a : Answer V) (j : Input T)
+      → one form f i v a j → IsEndOf reading j i
+  pub behind : (form : ErrorForm) (f : G) (i : Input T) (v : V) (a : Answer V) (j : Input T)
+      → other form f i v a j → IsEndOf reading j i
+  pub between : (form : ErrorForm) (f : H) (i : Input T) (l r : V) (a : Answer V) (j : Input T)
+      → two form f i l r a j → IsEndOf reading j i

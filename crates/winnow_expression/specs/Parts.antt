@@ -38,7 +38,7 @@ did_grammar reading form d1 d2 d3 d4 before behind between =
     parts_grammar reading.units (assert_kind form) (Ran reading d1 form) (Ran reading d2 form)
     (Ran reading d3 form) (Ran reading d4 form) (before form) (behind form) (between form)
 
--- The definition of the expression that they make. What a part leaves is an end of the input.
+-- The definition of the expression that they make. Each part leaves a suffix of its input.
 abbrev pub PartsDo : {S1 S2 S3 S4 T L V F G H : Type 0} → Reading T L → Does S1 T V
     → Does S2 T (Prefix F) → Does S3 T (Postfix G) → Does S4 T (Infix H) → DoesUnary F T V
     → DoesUnary G T V → DoesBinary H T V → Does ((S1 × S2) × (S3 × S4) × ℤ) T V

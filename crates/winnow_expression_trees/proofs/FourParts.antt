@@ -1,19 +1,22 @@
 -- The premises on the four parts are those on what is read.
 use Rattle.std.specs.Prelude.{◌≡◌, ◌≤◌, ◌<◌, ◌⊎◌, ℕ, ℤ, List, Some, Ok, Err}
 use Rattle.std.proofs.Common.{refl, sym, ◌∙◌, ap, subst, inl, inr, arith}
-use Rattle.stream_errors.specs.Form.{Answer}
+use Rattle.parser_definitions.specs.Does.{Ran}
+use Rattle.parser_definitions.specs.Outcome.{Does}
+use Rattle.stream_errors.specs.Form.{Answer, ErrorForm, assert_kind}
 use Rattle.stream_errors.specs.Form.Inversion.{ok_is_err}
-use Rattle.streams.specs.Input.{Input, IsEndOf, back_at, is_end_of_back, is_end_of_trans}
-use Rattle.streams.specs.Input.{same_parts}
+use Rattle.streams.specs.Input.{Input, IsEndOf, back_at, same_parts}
 use Rattle.streams.specs.Kind.{Kind, backtrack, memory}
 use Rattle.streams.specs.Reading.{Reading}
 use Rattle.winnow_core.specs.Decided.{EqualResults}
 use Rattle.winnow_core.specs.Decided.Inputs.{both_err, both_ok}
-use Rattle.winnow_core.specs.Ends.{back_ends, same_ends, same_units}
-use Rattle.winnow_core.specs.Runs.{LeaveEnds, Runs}
+use Rattle.winnow_core.specs.Ends.{same_units}
+use Rattle.winnow_core.specs.Runs.{Runs}
+use Rattle.winnow_expression.specs.Covers.Parts.{first_ran, next_ran}
+use Rattle.winnow_expression.specs.Folds.{DoesBinary, DoesUnary}
 use Rattle.winnow_expression.specs.Grammar.{Grammar, folding}
 use Rattle.winnow_expression.specs.Operators.{neither_power}
-use Rattle.winnow_expression.specs.Parts.{parts_grammar}
+use Rattle.winnow_expression.specs.Parts.{did_grammar, parts_grammar}
 use Rattle.winnow_expression.specs.Places.{FirstRuns, NextRuns, SomeRuns}
 use Rattle.winnow_expression.specs.Units.{ends_less, units_left}
 use Rattle.winnow_expression.specs.declared.combinator.operators.Infix.{Infix}
@@ -223,7 +226,7 @@ module _ {S1 S2 S3 S4 T V F G H : Type 0} (units : List T → ℕ) (refusal : Ki
         (Ok y) s.1 s.1 r q tt tt;
   }
 
--- an end with as many units is the input
+-- a suffix with as many units is the input
 at_rest : {T L : Type 0} (reading : Reading T L) (i j : Input T) → IsEndOf reading j i
     → j.status ≡ i.status → units_left reading.units j ≡ units_left reading.units i → j ≡ i
 at_rest reading i j p status same =
@@ -238,29 +241,21 @@ at_rest reading i j p status same =
     (p.ends.place ∙ ap (λ n. reading.advance i.left.place n) none
     ∙ reading.advance_none i.left.place) p.ends.possible status
 
--- what a part leaves that is called from the start again
-back_end : {T L : Type 0} {reading : Reading T L} (i m j : Input T) → IsEndOf reading m i
-    → IsEndOf reading j (back_at i.left m) → IsEndOf reading j i
-back_end i m j first then_ = is_end_of_trans then_ (is_end_of_back refl first)
-
-module _ {S1 S2 S3 S4 T L V F G H : Type 0} (reading : Reading T L) (refusal : Kind)
-    (operand : Runs S1 T V) (prefix : Runs S2 T (Prefix F)) (postfix : Runs S3 T (Postfix G))
-    (infix_ : Runs S4 T (Infix H)) (before : F → Input T → V → Answer V → Input T → Type 0)
-    (behind : G → Input T → V → Answer V → Input T → Type 0)
-    (between : H → Input T → V → V → Answer V → Input T → Type 0) (alike : V → V → Type 0)
-    (eo : LeaveEnds reading operand) (ep : LeaveEnds reading prefix)
-    (eq : LeaveEnds reading postfix) (ei : LeaveEnds reading infix_) (s1 : S1) (s2 : S2)
-    (s3 : S3) (s4 : S4)
-    (pr : Premises alike operand prefix postfix infix_ behind
-    (folding before between reading.units refusal) s1 s2 s3 s4) where
+module _ {S1 S2 S3 S4 T L V F G H : Type 0} (reading : Reading T L) (form : ErrorForm)
+    (d1 : Does S1 T V) (d2 : Does S2 T (Prefix F)) (d3 : Does S3 T (Postfix G))
+    (d4 : Does S4 T (Infix H)) (before : DoesUnary F T V) (behind : DoesUnary G T V)
+    (between : DoesBinary H T V) (alike : V → V → Type 0) (s1 : S1) (s2 : S2) (s3 : S3) (s4 : S4)
+    (pr : Premises alike (Ran reading d1 form) (Ran reading d2 form) (Ran reading d3 form)
+    (Ran reading d4 form) (behind form)
+    (folding (before form) (between form) reading.units (assert_kind form)) s1 s2 s3 s4) where
   abbrev parts : Grammar (S1 × S2) (S3 × S4) T V F G H
-  parts = whole reading.units refusal operand prefix postfix infix_ before behind between
+  parts = did_grammar reading form d1 d2 d3 d4 before behind between
 
   abbrev states : (S1 × S2) × (S3 × S4)
   states = ((s1, s2), (s3, s4))
 
   keeps_first : (i j : Input T) (a : Answer (First V F)) (t : S1 × S2)
-      → FirstRuns operand prefix (s1, s2) i a t j → NotMemory a
+      → parts.first (s1, s2) i a t j → NotMemory a
       → (t ≡ (s1, s2)) × (j.status ≡ i.status)
   keeps_first i j a t (inl (v, r, kept, e)) other =
       let k = pr.operands.keeps i j (Ok v) t.0 r tt in (pair_same t (s1, s2) k.0 kept, k.1)
@@ -277,7 +272,7 @@ module _ {S1 S2 S3 S4 T L V F G H : Type 0} (reading : Reading T L) (refusal : K
       (pair_same t (s1, s2) k.0 l.0, l.1 ∙ k.1)
 
   keeps_next : (i j : Input T) (a : Answer (Next G H)) (t : S3 × S4)
-      → NextRuns reading.units postfix infix_ (s3, s4) i a t j → NotMemory a
+      → parts.next (s3, s4) i a t j → NotMemory a
       → (t ≡ (s3, s4)) × (j.status ≡ i.status)
   keeps_next i j a t (inl (none, e, kept, place)) other = (kept, ap (λ z. z.status) place)
   keeps_next i j a t (inr (some, inl (p, r, kept, e))) other =
@@ -318,33 +313,15 @@ module _ {S1 S2 S3 S4 T L V F G H : Type 0} (reading : Reading T L) (refusal : K
   fallen i j end status = (ends_less reading j i end, at_rest reading i j end status)
 
   first_falls : (i j : Input T) (x : First V F)
-      → FirstRuns operand prefix (s1, s2) i (Ok x) (s1, s2) j → Fallen i j
+      → parts.first (s1, s2) i (Ok x) (s1, s2) j → Fallen i j
   first_falls i j x run =
-      fallen i j (ends run) (keeps_first i j (Ok x) (s1, s2) run tt).1
-    where
-      ends : FirstRuns operand prefix (s1, s2) i (Ok x) (s1, s2) j → IsEndOf reading j i
-      ends (inl (v, r, kept, e)) = eo s1 i (Ok v) s1 j r
-      ends (inr (inl (k, r, unlike, kept, e))) = eo s1 i (Err k) s1 j r
-      ends (inr (inr (inl (m, p, r, q, e)))) = back_end i m j (eo s1 i (Err backtrack) s1 m r)
-          (ep s2 (back_at i.left m) (Ok p) s2 j q)
-      ends (inr (inr (inr (m, k, r, q, e)))) = back_end i m j (eo s1 i (Err backtrack) s1 m r)
-          (ep s2 (back_at i.left m) (Err k) s2 j q)
+      fallen i j (first_ran reading d1 d2 form (s1, s2) i (Ok x) (s1, s2) j run).0
+      (keeps_first i j (Ok x) (s1, s2) run tt).1
 
   next_falls : (i j : Input T) (x : Next G H) → NextStep parts states i x j → Fallen i j
   next_falls i j x step =
-      fallen i j (ends step) (keeps_next i j (Ok x) (s3, s4) step tt).1
-    where
-      ends : NextStep parts states i x j → IsEndOf reading j i
-      ends (inl (none, e, kept, place)) = same_ends reading i j place
-      ends (inr (some, inl (p, r, kept, e))) = eq s3 i (Ok p) s3 j r
-      ends (inr (some, inr (inl (k, r, unlike, kept, e)))) = eq s3 i (Err k) s3 j r
-      ends (inr (some, inr (inr (m, r, inl (o, q, e))))) =
-          back_end i m j (eq s3 i (Err backtrack) s3 m r) (ei s4 (back_at i.left m) (Ok o) s4 j q)
-      ends (inr (some, inr (inr (m, r, inr (inl (k, q, unlike, e)))))) =
-          back_end i m j (eq s3 i (Err backtrack) s3 m r) (ei s4 (back_at i.left m) (Err k) s4 j q)
-      ends (inr (some, inr (inr (m, r, inr (inr (n, q, place, e)))))) =
-          back_ends reading i n j place (back_end i m n (eq s3 i (Err backtrack) s3 m r)
-          (ei s4 (back_at i.left m) (Err backtrack) s4 n q))
+      fallen i j (next_ran reading d3 d4 form (s3, s4) i (Ok x) (s3, s4) j step).0
+      (keeps_next i j (Ok x) (s3, s4) step tt).1
 
   neither_moves : (i j : Input T) (o : Infix H) (p : ℤ) → NextStep parts states i (infix_read o) j
       → neither_power o ≡ Some p → units_left reading.units j < units_left reading.units i
@@ -354,20 +331,21 @@ module _ {S1 S2 S3 S4 T L V F G H : Type 0} (reading : Reading T L) (refusal : K
   neither_moves i j o p (inr (some, inr (inr (m, r, inl (x, q, e))))) is =
       let same : x ≡ o = cc in
       pr.neither_moves (back_at i.left m) j o p s4
-      (subst (λ z. infix_ s4 (back_at i.left m) (Ok z) s4 j) same q) is
+      (subst (λ z. Ran reading d4 form s4 (back_at i.left m) (Ok z) s4 j) same q) is
   neither_moves i j o p (inr (some, inr (inr (m, r, inr (inl (k, q, unlike, e)))))) is =
       ok_is_err refl e
   neither_moves i j o p (inr (some, inr (inr (m, r, inr (inr (n, q, place, e)))))) is = absurd (cc)
 
-  pub plain_parts : Plain parts alike (FoldAlike alike before) (FoldAlike alike behind)
-      (FoldsAlike alike between) states
+  pub plain_parts : Plain parts alike (FoldAlike alike (before form))
+      (FoldAlike alike (behind form)) (FoldsAlike alike (between form)) states
   plain_parts = record {
     first_keeps = λ i j a t r n. (keeps_first i j a t r n).0;
-    first_decided = first_decided alike (FoldAlike alike before) operand prefix s1 s2
-        pr.operands.decided pr.prefixes.decided;
+    first_decided = first_decided alike (FoldAlike alike (before form)) (Ran reading d1 form)
+        (Ran reading d2 form) s1 s2 pr.operands.decided pr.prefixes.decided;
     next_keeps = λ i j a t r n. (keeps_next i j a t r n).0;
-    next_decided = next_decided (FoldAlike alike behind) (FoldsAlike alike between) postfix infix_
-        s3 s4 pr.postfixes.decided pr.infixes.decided reading.units;
+    next_decided = next_decided (FoldAlike alike (behind form)) (FoldsAlike alike (between form))
+        (Ran reading d3 form) (Ran reading d4 form) s3 s4 pr.postfixes.decided pr.infixes.decided
+        reading.units;
     nothing = nothing_stays;
     back = λ i j x r. back_is i j (keeps_next i j (Ok x) (s3, s4) r tt).1;
     prefix_falls = λ i j p f r. (first_falls i j (prefix_read p f) r).0;

@@ -4,7 +4,6 @@ ghost use Rattle.std.specs.Prelude.{◌≡◌, ◌⊎◌, ℤ, Bool, Err};
 ghost use Rattle.stream_errors.specs.Form.{Answer, assert_kind};
 ghost use Rattle.streams.specs.Input.{Input};
 ghost use Rattle.streams.specs.Kind.{Kind, memory};
-ghost use Rattle.winnow_expression.specs.Did.{Did};
 ghost use Rattle.winnow_expression.specs.Expression.{LeveledRuns};
 ghost use Rattle.winnow_expression.specs.Grammar.{folding};
 ghost use Rattle.winnow_expression.specs.Parts.{PartsDo, did_grammar};
@@ -43,7 +42,7 @@ pub trait Likeness<O> {
 /// determine the reading of each part, up to equivalent outputs. Folds must give equivalent results
 /// for equivalent operands, and leave the input unchanged.
 ///
-/// The calls of the parts and of the expression are those of which `parse_next` ensures `ran`.
+/// The calls of the parts and of the expression are those that clause `ran` of `parse_next` allows.
 ///
 /// Then at most one tree over a prefix of the reading respects precedence. The expression succeeds
 /// if and only if there is one whose folds succeed. It returns the value of that tree, and leaves
@@ -300,7 +299,7 @@ pub fn assert_rules_leave_no_tree<
         (t : (P.State × Pre.State) × (Post.State × Pix.State) × ℤ) (j : Input I.Seen)
         → LeveledRuns (accepting (did_grammar I.reading E.form P.does Pre.does
         Post.does Pix.does F.folds G.folds H.folds)) s i answer t j
-        → Did (PartsDo I.reading P.does Pre.does Post.does Pix.does F.folds G.folds
+        → Ran I.reading (PartsDo I.reading P.does Pre.does Post.does Pix.does F.folds G.folds
         H.folds) E.form s i answer t j }
     ensures either { (s : (P.State × Pre.State) × (Post.State × Pix.State) × ℤ)
         (i : Input I.Seen) (answer : Answer O)

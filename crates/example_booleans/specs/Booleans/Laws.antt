@@ -4,7 +4,7 @@ use Rattle.std.proofs.Common.{sym, ◌∙◌, ap, subst, arith}
 use Rattle.streams.specs.Equal.{same_first, same_others}
 use Rattle.winnow_expression_trees.specs.Items.{AreItems}
 use Rattle.grammars.specs.Grammar.{IsUnique, TakesTokens}
-use Rattle.winnow_expression_trees.specs.Items.Grammar.{IsFront, tree_takes, tree_unique}
+use Rattle.winnow_expression_trees.specs.Items.Grammar.{tree_takes, tree_unique}
 use Rattle.example_booleans.specs.Booleans.{ByteItem, IsFormula, infix_at, logic_value, not_value}
 use Rattle.example_booleans.specs.Booleans.{operand_at, postfix_at, prefix_at}
 
@@ -19,20 +19,16 @@ byte_items meant = record {
         same_others (sym splits ∙ splits2),
       );
   some = λ tokens o r (b, splits, is). omega (arith, ap (λ l. length l) splits);
+  front = λ tokens o r (b, splits, is). (b ∷ [], splits);
 }
 
 -- ---- formulas, as a grammar
-
--- a byte is a prefix
-pub byte_front : {O : Type 0} (meant : ℕ → Option O) → IsFront (ByteItem meant)
-byte_front meant tokens o rest (b, splits, is) = (b ∷ [], splits)
 
 -- a formula leaves one rest
 pub formula_unique : IsUnique IsFormula
 formula_unique = tree_unique (ByteItem operand_at) (ByteItem prefix_at) (ByteItem postfix_at)
     (ByteItem infix_at) not_value not_value logic_value (pos 0) length (byte_items operand_at)
-    (byte_items prefix_at) (byte_items postfix_at) (byte_items infix_at) (byte_front operand_at)
-    (byte_front prefix_at) (byte_front postfix_at) (byte_front infix_at)
+    (byte_items prefix_at) (byte_items postfix_at) (byte_items infix_at)
 
 -- and takes bytes
 pub formula_takes : TakesTokens IsFormula

@@ -1,7 +1,7 @@
 -- The parts of an expression are covered.
-use Rattle.std.specs.Prelude.{◌≡◌, ◌<◌, ◌⊎◌, List, ℕ, Option, None, Ok, Err}
+use Rattle.std.specs.Prelude.{◌≡◌, ◌<◌, ◌⊎◌, List, Option, None, Ok, Err}
 use Rattle.std.proofs.Common.{refl, sym, subst, ap, ◌∙◌, inl, inr}
-use Rattle.streams.specs.Input.{Input, Remaining, back_at, is_end_of_back, is_end_of_trans}
+use Rattle.streams.specs.Input.{Input, Remaining, back_at}
 use Rattle.streams.specs.Kind.{Kind, backtrack, cut, incomplete, memory}
 use Rattle.streams.specs.Reading.{Reading}
 use Rattle.stream_errors.specs.Form.{Answer, ErrorForm}
@@ -13,12 +13,12 @@ use Rattle.parser_definitions.specs.Outcome.{wants}
 use Rattle.parser_definitions.specs.Places.{FirstDoes, NextDoes, or_infix, or_nothing, or_prefix}
 use Rattle.parser_definitions.specs.Then.{ComesOf}
 use Rattle.parser_definitions.specs.Then.Steps.{takes, with_first, with_second}
-use Rattle.winnow_core.specs.Covers.{At, Covers, at_back, at_same, covered_ran, failed, gave}
-use Rattle.winnow_core.specs.Covers.{left_at, pair_is}
-use Rattle.winnow_core.specs.Ends.{back_ends}
+use Rattle.winnow_core.specs.Covers.{failed, gave, left_at, pair_is}
 use Rattle.winnow_core.specs.Runs.{Runs}
+use Rattle.winnow_expression.specs.Covers.{Reads, Within, ending_reads, reads_ran, within_back}
+use Rattle.winnow_expression.specs.Covers.{within_same}
 use Rattle.winnow_expression.specs.Definition.{OutputAs, first_side, made_as, next_side}
-use Rattle.winnow_expression.specs.Ending.{Ending, ending_covers}
+use Rattle.winnow_expression.specs.Ending.{Ending}
 use Rattle.winnow_expression.specs.Places.{FirstRuns, NextRuns}
 use Rattle.winnow_expression.specs.declared.combinator.operators.Infix.{Infix}
 use Rattle.winnow_expression.specs.declared.combinator.operators.Postfix.{Postfix}
@@ -41,12 +41,13 @@ as_outcome to (Err cut) l = refl
 as_outcome to (Err (incomplete need)) l = refl
 as_outcome to (Err memory) l = refl
 
-as_covered : {S T O U : Type 0} {at : Setting} {run : Runs S T O} (does : Does S T U) (to : O → U)
-    → ((s : S) (i : Input T) (a : Answer O) (t : S) (j : Input T) → At at i → run s i a t j
-    → does at s (left_of i) (outcome_of (answer_as to a) (t, left_of j)) × At at j)
-    → Covers at run (OutputAs to does)
-as_covered {at = at} does to calls = record {
-  covers = λ s i a t j here r.
+as_reads : {S T L O U : Type 0} {reading : Reading T L} {at : Setting} {start : Input T}
+    {run : Runs S T O} (does : Does S T U) (to : O → U)
+    → ((s : S) (i : Input T) (a : Answer O) (t : S) (j : Input T) → Within reading at start i
+    → run s i a t j → does at s (left_of i) (outcome_of (answer_as to a) (t, left_of j))
+    × Within reading at start j) → Reads reading at start run (OutputAs to does)
+as_reads {at = at} does to calls = record {
+  reads = λ s i a t j here r.
       let d = calls s i a t j here r in
       (subst (λ y. does at s (left_of i) y) (as_outcome to a (t, left_of j)) d.0, d.1);
 }
@@ -104,15 +105,16 @@ module _ {O U : Type 0} (to : O → U) (alike : U → U → Type 0) where
 
 -- ---- the parts
 
-module _ {S W T V F : Type 0} {at : Setting} {operand : Runs S T V} {prefix : Runs W T (Prefix F)}
-    {one : Does S T V} {two : Does W T (Prefix F)} (h1 : Covers at operand one)
-    (h2 : Covers at prefix two) where
+module _ {S W T L V F : Type 0} {reading : Reading T L} {at : Setting} {start : Input T}
+    {operand : Runs S T V} {prefix : Runs W T (Prefix F)} {one : Does S T V}
+    {two : Does W T (Prefix F)} (h1 : Reads reading at start operand one)
+    (h2 : Reads reading at start prefix two) where
   first_calls : (s : S × W) (i : Input T) (a : Answer (First V F)) (t : S × W) (j : Input T)
-      → At at i → FirstRuns operand prefix s i a t j
+      → Within reading at start i → FirstRuns operand prefix s i a t j
       → FirstDoes one two at s (left_of i) (outcome_of (answer_as first_side a) (t, left_of j))
-      × At at j
+      × Within reading at start j
   first_calls s i a t j here (inl (v, r, kept, e)) =
-      let d = h1.covers s.0 i (Ok v) t.0 j here r in
+      let d = h1.reads s.0 i (Ok v) t.0 j here r in
       let P : S × W → Outcome (End (S × W) T) (V ⊎ Prefix F) = λ z. took (inl v) (z, left_of j) in (
         (
           took v (t.0, left_of j),
@@ -122,7 +124,7 @@ module _ {S W T V F : Type 0} {at : Setting} {operand : Runs S T V} {prefix : Ru
         d.1,
       )
   first_calls s i a t j here (inr (inl (k, r, other, kept, e))) =
-      let d = h1.covers s.0 i (Err k) t.0 j here r in
+      let d = h1.reads s.0 i (Err k) t.0 j here r in
       let P : S × W → Type 0 = λ z. ComesOf (or_prefix two) at s (left_of i)
       (outcome_of (Err k) (t.0, left_of j))
       (outcome_of (answer_as first_side a) (z, left_of j)) in (
@@ -142,8 +144,8 @@ module _ {S W T V F : Type 0} {at : Setting} {operand : Runs S T V} {prefix : Ru
       by (incomplete need) other e = gave ((t.0, s.1), left_of j) (ap (answer_as first_side) e)
       by memory other e = gave ((t.0, s.1), left_of j) (ap (answer_as first_side) e)
   first_calls s i a t j here (inr (inr (inl (m, p, r, q, e)))) =
-      let d = h1.covers s.0 i (Err backtrack) t.0 m here r in
-      let c = h2.covers s.1 (back_at i.left m) (Ok p) t.1 j (at_back here d.1) q in (
+      let d = h1.reads s.0 i (Err backtrack) t.0 m here r in
+      let c = h2.reads s.1 (back_at i.left m) (Ok p) t.1 j (within_back here d.1) q in (
         (
           backs (t.0, left_of m),
           d.0,
@@ -156,8 +158,8 @@ module _ {S W T V F : Type 0} {at : Setting} {operand : Runs S T V} {prefix : Ru
         c.1,
       )
   first_calls s i a t j here (inr (inr (inr (m, k, r, q, e)))) =
-      let d = h1.covers s.0 i (Err backtrack) t.0 m here r in
-      let c = h2.covers s.1 (back_at i.left m) (Err k) t.1 j (at_back here d.1) q in (
+      let d = h1.reads s.0 i (Err backtrack) t.0 m here r in
+      let c = h2.reads s.1 (back_at i.left m) (Err k) t.1 j (within_back here d.1) q in (
         (
           backs (t.0, left_of m),
           d.0,
@@ -172,16 +174,18 @@ module _ {S W T V F : Type 0} {at : Setting} {operand : Runs S T V} {prefix : Ru
         c.1,
       )
 
-  pub first_covered : Covers at (FirstRuns operand prefix) (OutputAs first_side (FirstDoes one two))
-  first_covered = as_covered (FirstDoes one two) first_side first_calls
+  pub first_reads : Reads reading at start (FirstRuns operand prefix)
+      (OutputAs first_side (FirstDoes one two))
+  first_reads = as_reads (FirstDoes one two) first_side first_calls
 
-module _ {S W T G H : Type 0} {at : Setting} (units : List T → ℕ) {postfix : Runs S T (Postfix G)}
-    {infix_ : Runs W T (Infix H)} {one : Does S T (Postfix G)} {two : Does W T (Infix H)}
-    (h1 : Covers at postfix one) (h2 : Covers at infix_ two) where
+module _ {S W T L G H : Type 0} {reading : Reading T L} {at : Setting} {start : Input T}
+    {postfix : Runs S T (Postfix G)} {infix_ : Runs W T (Infix H)} {one : Does S T (Postfix G)}
+    {two : Does W T (Infix H)} (h1 : Reads reading at start postfix one)
+    (h2 : Reads reading at start infix_ two) where
   next_calls : (s : S × W) (i : Input T) (a : Answer (Next G H)) (t : S × W) (j : Input T)
-      → At at i → NextRuns units postfix infix_ s i a t j
-      → NextDoes units one two at s (left_of i)
-      (outcome_of (answer_as next_side a) (t, left_of j)) × At at j
+      → Within reading at start i → NextRuns reading.units postfix infix_ s i a t j
+      → NextDoes reading.units one two at s (left_of i)
+      (outcome_of (answer_as next_side a) (t, left_of j)) × Within reading at start j
   next_calls s i a t j here (inl (none, e, kept, same)) =
       let P : S × W → Input T → Outcome (End (S × W) T) (Option (Postfix G ⊎ Infix H)) =
       λ z k. took None (z, left_of k) in (
@@ -190,10 +194,10 @@ module _ {S W T G H : Type 0} {at : Setting} (units : List T → ℕ) {postfix :
           gave (t, left_of j) (ap (answer_as next_side) e) ∙ ap (λ z. P z j) kept
               ∙ ap (λ k. P s k) same,
         ),
-        at_same same here,
+        within_same same here,
       )
   next_calls s i a t j here (inr (some, inl (p, r, kept, e))) =
-      let d = h1.covers s.0 i (Ok p) t.0 j here r in
+      let d = h1.reads s.0 i (Ok p) t.0 j here r in
       let P : S × W → Type 0 = λ z. ComesOf (or_infix two) at s (left_of i)
       (took p (t.0, left_of j)) (outcome_of (answer_as next_side a) (z, left_of j)) in (
         inr (
@@ -208,7 +212,7 @@ module _ {S W T G H : Type 0} {at : Setting} (units : List T → ℕ) {postfix :
         d.1,
       )
   next_calls s i a t j here (inr (some, inr (inl (k, r, other, kept, e)))) =
-      let d = h1.covers s.0 i (Err k) t.0 j here r in
+      let d = h1.reads s.0 i (Err k) t.0 j here r in
       let P : S × W → Type 0 = λ z. ComesOf (or_infix two) at s (left_of i)
       (outcome_of (Err k) (t.0, left_of j)) (outcome_of (answer_as next_side a) (z, left_of j)) in (
         inr (
@@ -230,8 +234,8 @@ module _ {S W T G H : Type 0} {at : Setting} (units : List T → ℕ) {postfix :
       by (incomplete need) other e = gave ((t.0, s.1), left_of j) (ap (answer_as next_side) e)
       by memory other e = gave ((t.0, s.1), left_of j) (ap (answer_as next_side) e)
   next_calls s i a t j here (inr (some, inr (inr (m, r, inl (o, q, e))))) =
-      let d = h1.covers s.0 i (Err backtrack) t.0 m here r in
-      let c = h2.covers s.1 (back_at i.left m) (Ok o) t.1 j (at_back here d.1) q in (
+      let d = h1.reads s.0 i (Err backtrack) t.0 m here r in
+      let c = h2.reads s.1 (back_at i.left m) (Ok o) t.1 j (within_back here d.1) q in (
         inr (
           some,
           (
@@ -243,8 +247,8 @@ module _ {S W T G H : Type 0} {at : Setting} (units : List T → ℕ) {postfix :
         c.1,
       )
   next_calls s i a t j here (inr (some, inr (inr (m, r, inr (inl (k, q, other, e)))))) =
-      let d = h1.covers s.0 i (Err backtrack) t.0 m here r in
-      let c = h2.covers s.1 (back_at i.left m) (Err k) t.1 j (at_back here d.1) q in (
+      let d = h1.reads s.0 i (Err backtrack) t.0 m here r in
+      let c = h2.reads s.1 (back_at i.left m) (Err k) t.1 j (within_back here d.1) q in (
         inr (
           some,
           (
@@ -265,8 +269,8 @@ module _ {S W T G H : Type 0} {at : Setting} (units : List T → ℕ) {postfix :
       by (incomplete need) other e = gave (t, left_of j) (ap (answer_as next_side) e)
       by memory other e = gave (t, left_of j) (ap (answer_as next_side) e)
   next_calls s i a t j here (inr (some, inr (inr (m, r, inr (inr (n, q, same, e)))))) =
-      let d = h1.covers s.0 i (Err backtrack) t.0 m here r in
-      let c = h2.covers s.1 (back_at i.left m) (Err backtrack) t.1 n (at_back here d.1) q in (
+      let d = h1.reads s.0 i (Err backtrack) t.0 m here r in
+      let c = h2.reads s.1 (back_at i.left m) (Err backtrack) t.1 n (within_back here d.1) q in (
         inr (
           some,
           (
@@ -279,14 +283,36 @@ module _ {S W T G H : Type 0} {at : Setting} (units : List T → ℕ) {postfix :
             ),
           ),
         ),
-        at_same same (at_back here c.1),
+        within_same same (within_back here c.1),
       )
 
-  pub next_covered : Covers at (NextRuns units postfix infix_)
-      (OutputAs next_side (NextDoes units one two))
-  next_covered = as_covered (NextDoes units one two) next_side next_calls
+  pub next_reads : Reads reading at start (NextRuns reading.units postfix infix_)
+      (OutputAs next_side (NextDoes reading.units one two))
+  next_reads = as_reads (NextDoes reading.units one two) next_side next_calls
 
--- ---- a call
+-- ---- calls
+
+pub first_ran : {S W T L V F : Type 0} (reading : Reading T L) (one : Does S T V)
+    (two : Does W T (Prefix F)) (form : ErrorForm) (s : S × W) (i : Input T)
+    (a : Answer (First V F)) (t : S × W) (j : Input T)
+    → FirstRuns (Ran reading one form) (Ran reading two form) s i a t j
+    → Ran reading (OutputAs first_side (FirstDoes (Ending reading one) (Ending reading two))) form s
+    i a t j
+first_ran reading one two form s i a t j =
+    let at = setting_of form i in
+    reads_ran reading form s i a t j
+    (first_reads (ending_reads reading one at i) (ending_reads reading two at i))
+
+pub next_ran : {S W T L G H : Type 0} (reading : Reading T L) (one : Does S T (Postfix G))
+    (two : Does W T (Infix H)) (form : ErrorForm) (s : S × W) (i : Input T) (a : Answer (Next G H))
+    (t : S × W) (j : Input T)
+    → NextRuns reading.units (Ran reading one form) (Ran reading two form) s i a t j
+    → Ran reading (OutputAs next_side (NextDoes reading.units (Ending reading one)
+    (Ending reading two))) form s i a t j
+next_ran reading one two form s i a t j =
+    let at = setting_of form i in
+    reads_ran reading form s i a t j
+    (next_reads (ending_reads reading one at i) (ending_reads reading two at i))
 
 -- there is no operator: both parts backtrack, and the input is reset
 pub nothing_ran : {S W T L G H : Type 0} (reading : Reading T L) (one : Does S T (Postfix G))
@@ -302,9 +328,5 @@ nothing_ran reading one two form s t i m start n j x k l some first none back at
     let P : Input _ → Kind → Type 0 = λ z h. Ran reading two form s.1 z (Err h) t.1 n in
     let q = subst (λ h. P (back_at i.left m) h) nothing
     (subst (λ z. P z l) (back ∙ ap (λ y. back_at y m) at) second) in
-    let place : j ≡ back_at i.left n = rest ∙ ap (λ y. back_at y n) at in
-    covered_ran reading form s i (Ok Nothing) t j
-    (back_ends reading i n j place (is_end_of_trans q.0 (is_end_of_back refl r.0)))
-    (next_covered reading.units (ending_covers reading one (setting_of form i))
-    (ending_covers reading two (setting_of form i)))
-    (inr (some, inr (inr (m, r, inr (inr (n, q, place, refl))))))
+    next_ran reading one two form s i (Ok Nothing) t j
+    (inr (some, inr (inr (m, r, inr (inr (n, q, rest ∙ ap (λ y. back_at y n) at, refl))))))

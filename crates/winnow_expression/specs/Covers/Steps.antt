@@ -3,6 +3,7 @@ use Rattle.std.specs.Prelude.{◌≡◌, ◌⊎◌, ℕ, ℤ, Bool, true, false,
 use Rattle.std.proofs.Common.{refl, sym, subst, ap, ◌∙◌, inl, inr}
 use Rattle.streams.specs.Input.{Input}
 use Rattle.streams.specs.Kind.{Kind, backtrack, cut, incomplete, memory}
+use Rattle.streams.specs.Reading.{Reading}
 use Rattle.stream_errors.specs.Form.{Answer, ErrorForm, assert_kind, modal, plain}
 use Rattle.parser_definitions.specs.Expression.{Call}
 use Rattle.parser_definitions.specs.Expression.{Operators}
@@ -13,11 +14,12 @@ use Rattle.parser_definitions.specs.Outcome.{Does, Setting, misused, misused_by}
 use Rattle.parser_definitions.specs.Outcome.{outcome_of, took}
 use Rattle.parser_definitions.specs.Then.{Comes, ComesOf, Then}
 use Rattle.parser_definitions.specs.Then.Steps.{In, hands_on, instead, same, where_took}
-use Rattle.winnow_core.specs.Covers.{At, Covers, at_back, at_same, gave, left_at}
+use Rattle.winnow_core.specs.Covers.{gave, left_at}
 use Rattle.winnow_core.specs.Runs.{Runs}
 use Rattle.winnow_expression.specs.Calls as lib
+use Rattle.winnow_expression.specs.Covers.{Reads, Within, within_back, within_end, within_same}
 use Rattle.winnow_expression.specs.Definition.{OutputAs, first_side, made_as, next_side, operators}
-use Rattle.winnow_expression.specs.Folds.{DoesBinary, DoesUnary}
+use Rattle.winnow_expression.specs.Folds.{DoesBinary, DoesUnary, FoldsLeaveEnds}
 use Rattle.winnow_expression.specs.Grammar.{CallEnds, Folding, Grammar, TurnEnds}
 use Rattle.winnow_expression.specs.Grammar.{folding, grammar}
 use Rattle.winnow_expression.specs.declared.combinator.operators.Infix.{Infix}
@@ -81,25 +83,26 @@ fails_misused V modal q l a e = gave (q, l) e
 
 -- ---- the steps of a call
 
--- The parts are covered, and a fold leaves its input in the same setting.
-pub record PartsCovered {S W T V F G H : Type 0} (at : Setting) (units : List T → ℕ)
-    (before : DoesUnary F T V) (behind : DoesUnary G T V) (between : DoesBinary H T V)
-    (first : Runs S T (First V F)) (next : Runs W T (Next G H)) (one : Does S T (V ⊎ Prefix F))
-    (two : Does W T (Option (Postfix G ⊎ Infix H))) : Type 0 where
-  pub reads_first : Covers at first (OutputAs first_side one)
-  pub reads_next : Covers at next (OutputAs next_side two)
-  pub keeps_before : (f : F) (i : Input T) (v : V) (a : Answer V) (j : Input T)
-      → before at.form f i v a j → At at i → At at j
-  pub keeps_behind : (f : G) (i : Input T) (v : V) (a : Answer V) (j : Input T)
-      → behind at.form f i v a j → At at i → At at j
-  pub keeps_between : (f : H) (i : Input T) (l r : V) (a : Answer V) (j : Input T)
-      → between at.form f i l r a j → At at i → At at j
+-- Within a call, the parts are covered, and folds leave suffixes of their input.
+pub record PartsCovered {S W T L V F G H : Type 0} (reading : Reading T L) (at : Setting)
+    (start : Input T) (before : DoesUnary F T V) (behind : DoesUnary G T V)
+    (between : DoesBinary H T V) (first : Runs S T (First V F)) (next : Runs W T (Next G H))
+    (one : Does S T (V ⊎ Prefix F)) (two : Does W T (Option (Postfix G ⊎ Infix H))) : Type 0 where
+  pub reads_first : Reads reading at start first (OutputAs first_side one)
+  pub reads_next : Reads reading at start next (OutputAs next_side two)
+  pub folds : FoldsLeaveEnds reading before behind between
 
-module _ {S W T V F G H : Type 0} {at : Setting} {units : List T → ℕ} {before : DoesUnary F T V}
-    {behind : DoesUnary G T V} {between : DoesBinary H T V} {first : Runs S T (First V F)}
-    {next : Runs W T (Next G H)} {one : Does S T (V ⊎ Prefix F)}
-    {two : Does W T (Option (Postfix G ⊎ Infix H))}
-    (p : PartsCovered at units before behind between first next one two) (level : ℤ) where
+module _ {S W T L V F G H : Type 0} {reading : Reading T L} {at : Setting}
+    {start : Input T} {before : DoesUnary F T V} {behind : DoesUnary G T V}
+    {between : DoesBinary H T V} {first : Runs S T (First V F)} {next : Runs W T (Next G H)}
+    {one : Does S T (V ⊎ Prefix F)} {two : Does W T (Option (Postfix G ⊎ Infix H))}
+    (p : PartsCovered reading at start before behind between first next one two) (level : ℤ) where
+  abbrev units : List T → ℕ
+  units = reading.units
+
+  abbrev Here : Input T → Type 0
+  Here i = Within reading at start i
+
   abbrev pub Q : Type 0
   Q = S × W × ℤ
 
@@ -121,12 +124,12 @@ module _ {S W T V F G H : Type 0} {at : Setting} {units : List T → ℕ} {befor
   abbrev pub full : S × W → Q
   full s = (s.0, s.1, level)
 
-  pub first_did : (s u : S × W) (i m : Input T) (a : Answer (First V F)) → At at i
+  pub first_did : (s u : S × W) (i m : Input T) (a : Answer (First V F)) → Here i
       → first s.0 i a u.0 m → u.1 ≡ s.1
       → One at (full s) (left_of i) (made_as first_side (outcome_of a (full u, left_of m)))
-      × At at m
+      × Here m
   first_did s u i m a here r same =
-      let d = p.reads_first.covers s.0 i a u.0 m here r in
+      let d = p.reads_first.reads s.0 i a u.0 m here r in
       let P : W → Type 0 = λ w. ComesOf {Q = Q} (hands_on (λ q u. (u, q.1, q.2))) at (full s)
       (left_of i) (made_as first_side (outcome_of a (u.0, left_of m)))
       (made_as first_side (outcome_of a ((u.0, w, level), left_of m))) in (
@@ -144,12 +147,12 @@ module _ {S W T V F G H : Type 0} {at : Setting} {units : List T → ℕ} {befor
       by (Err (incomplete need)) = refl
       by (Err memory) = refl
 
-  pub next_did : (s u : S × W) (i m : Input T) (a : Answer (Next G H)) → At at i
+  pub next_did : (s u : S × W) (i m : Input T) (a : Answer (Next G H)) → Here i
       → next s.1 i a u.1 m → u.0 ≡ s.0
       → Two at (full s) (left_of i) (made_as next_side (outcome_of a (full u, left_of m)))
-      × At at m
+      × Here m
   next_did s u i m a here r same =
-      let d = p.reads_next.covers s.1 i a u.1 m here r in
+      let d = p.reads_next.reads s.1 i a u.1 m here r in
       let P : S → Type 0 = λ z. ComesOf {Q = Q} (hands_on (λ q u. (q.0, u, q.2))) at (full s)
       (left_of i) (made_as next_side (outcome_of a (u.1, left_of m)))
       (made_as next_side (outcome_of a ((z, u.1, level), left_of m))) in (
@@ -169,11 +172,11 @@ module _ {S W T V F G H : Type 0} {at : Setting} {units : List T → ℕ} {befor
 
   -- a call ends at its beginning
   pub tree_ended : (call : lib.Call) (s t : S × W) (i j : Input T) (k : Kind)
-      (a : Answer (V × Bool)) → At at i
+      (a : Answer (V × Bool)) → Here i
       → CallEnds H units first (assert_kind at.form) call s.0 i k t.0 j → t.1 ≡ s.1
       → a ≡ Err k
       → Then same One (where_took instead (first_last units)) at (full s) (left_of i)
-      (outcome_of a (full t, left_of j)) × At at j
+      (outcome_of a (full t, left_of j)) × Here j
   tree_ended call s t i j k a here (inl r) is e =
       let d = first_did s t i j (Err k) here r is in (
         (
@@ -207,11 +210,11 @@ module _ {S W T V F G H : Type 0} {at : Setting} {units : List T → ℕ} {befor
 
   -- a call ends after a value
   pub tail_ended : (call : lib.Call) (v : V) (s t : S × W) (i j : Input T) (a : Answer (V × Bool))
-      → At at i
+      → Here i
       → TurnEnds F units next (behind at.form) (assert_kind at.form) call v s.1 i a t.1 j
       → t.0 ≡ s.0
       → Then same Two (where_took instead (next_last O (call_as call) v)) at (full s) (left_of i)
-      (outcome_of a (full t, left_of j)) × At at j
+      (outcome_of a (full t, left_of j)) × Here j
   tail_ended call v s t i j a here (inl (r, e)) is =
       let d = next_did s t i j (Ok Nothing) here r is in
       ((took None (full t, left_of j), d.0, gave (full t, left_of j) e), d.1)
@@ -235,7 +238,7 @@ module _ {S W T V F G H : Type 0} {at : Setting} {units : List T → ℕ} {befor
             gave (full t, left_of j) e ∙ left_at (full t) (Ok (v, false)) put,
           ),
         ),
-        at_same put (at_back here d.1),
+        within_same put (within_back here d.1),
       )
   tail_ended call v s t i j a here
       (inr (inr (inr (inl (power, fold, m, k, r, reaches, folds, e))))) is =
@@ -249,14 +252,14 @@ module _ {S W T V F G H : Type 0} {at : Setting} {units : List T → ℕ} {befor
               outcome_of (Err k) (left_of j),
               (
                 outcome_of (Err k) (left_of j),
-                (m, Err k, j, d.1, refl, folds, refl),
+                (m, Err k, j, d.1.setting, refl, folds, refl),
                 checked_error V units (units i.left.tokens) at k (left_of j),
               ),
               fails_error V (full t) k (left_of j) a e,
             ),
           ),
         ),
-        p.keeps_behind fold m v (Err k) j folds d.1,
+        within_end d.1 (p.folds.behind at.form fold m v (Err k) j folds),
       )
   tail_ended call v s t i j a here
       (inr (inr (inr (inr (inl (power, fold, m, value, r, reaches, folds, still, e)))))) is =
@@ -270,14 +273,14 @@ module _ {S W T V F G H : Type 0} {at : Setting} {units : List T → ℕ} {befor
               misused at (left_of j),
               (
                 took value (left_of j),
-                (m, Ok value, j, d.1, refl, folds, refl),
+                (m, Ok value, j, d.1.setting, refl, folds, refl),
                 inl (still, refl),
               ),
               fails_misused V at.form (full t) (left_of j) a e,
             ),
           ),
         ),
-        p.keeps_behind fold m v (Ok value) j folds d.1,
+        within_end d.1 (p.folds.behind at.form fold m v (Ok value) j folds),
       )
   tail_ended call v s t i j a here (inr (inr (inr (inr (inr (inl (o, m, r, less, put, e))))))) is =
       let d = next_did s t i m (Ok (infix_read o)) here r is in (
@@ -289,7 +292,7 @@ module _ {S W T V F G H : Type 0} {at : Setting} {units : List T → ℕ} {befor
             gave (full t, left_of j) e ∙ left_at (full t) (Ok (v, false)) put,
           ),
         ),
-        at_same put (at_back here d.1),
+        within_same put (within_back here d.1),
       )
   tail_ended call v s t i j a here
       (inr (inr (inr (inr (inr (inr (inl (o, m, r, reaches, meets, put, e)))))))) is =
@@ -305,7 +308,7 @@ module _ {S W T V F G H : Type 0} {at : Setting} {units : List T → ℕ} {befor
             ),
           ),
         ),
-        at_same put (at_back here d.1),
+        within_same put (within_back here d.1),
       )
   tail_ended call v s t i j a here
       (inr (inr (inr (inr (inr (inr (inr (inl (o, r, reaches, apart, still, e))))))))) is =

@@ -1,7 +1,7 @@
 -- Trees of an expression with covered parts are covered.
 use Rattle.std.specs.Prelude.{◌≡◌, ◌⊎◌, ℕ, ℤ, Bool, true, List, Option, Ok, Err}
 use Rattle.std.proofs.Common.{refl, sym, subst, ap, ◌∙◌, inl, inr}
-use Rattle.streams.specs.Input.{Input, IsEndOf}
+use Rattle.streams.specs.Input.{Input}
 use Rattle.streams.specs.Kind.{Kind, backtrack, cut, incomplete, memory}
 use Rattle.streams.specs.Reading.{Reading}
 use Rattle.stream_errors.specs.Form.{Answer, ErrorForm, assert_kind}
@@ -17,11 +17,14 @@ use Rattle.parser_definitions.specs.Outcome.{Does, Outcome, Setting}
 use Rattle.parser_definitions.specs.Outcome.{outcome_of, setting_of, took}
 use Rattle.parser_definitions.specs.Then.{ComesOf}
 use Rattle.parser_definitions.specs.Then.Steps.{same}
-use Rattle.winnow_core.specs.Covers.{At, Covers, at_end, at_same, covered_ran, gave, ran_covers}
+use Rattle.winnow_core.specs.Covers.{Covers, gave, ran_covers, ran_ends}
 use Rattle.winnow_core.specs.Runs.{Runs}
 use Rattle.winnow_expression.specs.Covers.Steps as step
-use Rattle.winnow_expression.specs.Covers.Steps.{PartsCovered, call_as, checked_error, first_did}
-use Rattle.winnow_expression.specs.Covers.Steps.{misuse, next_did, tail_ended, tree_ended}
+use Rattle.winnow_expression.specs.Covers.{Reads, Within, covered_reads, reads_ran, within_end}
+use Rattle.winnow_expression.specs.Covers.{within_same}
+use Rattle.winnow_expression.specs.Covers.Steps.{PartsCovered, call_as, checked_error}
+use Rattle.winnow_expression.specs.Covers.Steps.{first_did, misuse, next_did, tail_ended}
+use Rattle.winnow_expression.specs.Covers.Steps.{tree_ended}
 use Rattle.winnow_expression.specs.Calls as lib
 use Rattle.winnow_expression.specs.Definition.{LeveledDo, OutputAs, first_side, next_side}
 use Rattle.winnow_expression.specs.Definition.{operators}
@@ -29,7 +32,7 @@ use Rattle.winnow_expression.specs.Expression.{ExpressionRuns, JoinedRuns, Level
 use Rattle.winnow_expression.specs.Expression.{TreeRuns, call_ends, call_operand, call_prefix}
 use Rattle.winnow_expression.specs.Expression.{resume_ends, resume_goes, turn_ends, turn_infix}
 use Rattle.winnow_expression.specs.Expression.{turn_postfix}
-use Rattle.winnow_expression.specs.Folds.{DoesBinary, DoesUnary}
+use Rattle.winnow_expression.specs.Folds.{DoesBinary, DoesUnary, FoldsLeaveEnds}
 use Rattle.winnow_expression.specs.Grammar.{Closes, Folding, Grammar, ResumeEnds, folding, grammar}
 use Rattle.winnow_expression.specs.Operators.{fold_of}
 use Rattle.winnow_expression.specs.declared.combinator.calls.Operator.{Operator}
@@ -67,11 +70,17 @@ kept x = record { operator = operator_kept x.operator; call = call_kept x.call }
 
 -- ---- trees
 
-module _ {S W T V F G H : Type 0} {at : Setting} {units : List T → ℕ} {before : DoesUnary F T V}
-    {behind : DoesUnary G T V} {between : DoesBinary H T V} {first : Runs S T (First V F)}
-    {next : Runs W T (Next G H)} {one : Does S T (V ⊎ Prefix F)}
-    {two : Does W T (Option (Postfix G ⊎ Infix H))}
-    (p : PartsCovered at units before behind between first next one two) (level : ℤ) where
+module _ {S W T L V F G H : Type 0} {reading : Reading T L} {at : Setting}
+    {start : Input T} {before : DoesUnary F T V} {behind : DoesUnary G T V}
+    {between : DoesBinary H T V} {first : Runs S T (First V F)} {next : Runs W T (Next G H)}
+    {one : Does S T (V ⊎ Prefix F)} {two : Does W T (Option (Postfix G ⊎ Infix H))}
+    (p : PartsCovered reading at start before behind between first next one two) (level : ℤ) where
+  abbrev units : List T → ℕ
+  units = reading.units
+
+  abbrev Here : Input T → Type 0
+  Here i = Within reading at start i
+
   abbrev Q : Type 0
   Q = step.Q p level
 
@@ -95,49 +104,51 @@ module _ {S W T V F G H : Type 0} {at : Setting} {units : List T → ℕ} {befor
 
   -- an open operator is folded
   closed : (o : Prefix F ⊎ (V × Infix H)) (turn : ℕ) (i : Input T) (v : V) (a : Answer V)
-      (j : Input T) → At at i → Closes Folds (operator_kept o) turn i v a j
-      → FoldsOpen O at o turn (left_of i) v (outcome_of a (left_of j)) × At at j
-  closed (inl x) turn i v a j here folds =
-      ((i, a, j, here, refl, folds, refl), p.keeps_before x.1 i v a j folds here)
+      (j : Input T) → Here i → Closes Folds (operator_kept o) turn i v a j
+      → FoldsOpen O at o turn (left_of i) v (outcome_of a (left_of j)) × Here j
+  closed (inl x) turn i v a j here folds = (
+    (i, a, j, here.setting, refl, folds, refl),
+    within_end here (p.folds.before at.form x.1 i v a j folds),
+  )
   closed (inr o) turn i v a j here (inl (k, folds, e)) =
       let P : Answer V → Type 0 = λ b. checked units turn at (outcome_of (Err k) (left_of j))
       (outcome_of b (left_of j)) in (
         (
           outcome_of (Err k) (left_of j),
-          (i, Err k, j, here, refl, folds, refl),
+          (i, Err k, j, here.setting, refl, folds, refl),
           subst P (sym e) (checked_error V units turn at k (left_of j)),
         ),
-        p.keeps_between (fold_of o.1) i o.0 v (Err k) j folds here,
+        within_end here (p.folds.between at.form (fold_of o.1) i o.0 v (Err k) j folds),
       )
   closed (inr o) turn i v a j here (inr (inl (value, folds, still, e))) = (
     (
       took value (left_of j),
-      (i, Ok value, j, here, refl, folds, refl),
+      (i, Ok value, j, here.setting, refl, folds, refl),
       inl (still, gave (left_of j) e ∙ misuse at (left_of j)),
     ),
-    p.keeps_between (fold_of o.1) i o.0 v (Ok value) j folds here,
+    within_end here (p.folds.between at.form (fold_of o.1) i o.0 v (Ok value) j folds),
   )
   closed (inr o) turn i v a j here (inr (inr (value, folds, moved, e))) = (
     (
       took value (left_of j),
-      (i, Ok value, j, here, refl, folds, refl),
+      (i, Ok value, j, here.setting, refl, folds, refl),
       inr (moved, gave (left_of j) e),
     ),
-    p.keeps_between (fold_of o.1) i o.0 v (Ok value) j folds here,
+    within_end here (p.folds.between at.form (fold_of o.1) i o.0 v (Ok value) j folds),
   )
 
   -- an interrupted call ends
   join_ended : (d : Open V (Prefix F) (Infix H)) (b a : Answer (V × Bool)) (s t : S × W)
-      (i j : Input T) → At at i → ResumeEnds Parts (kept d) b i a j → t ≡ s
+      (i j : Input T) → Here i → ResumeEnds Parts (kept d) b i a j → t ≡ s
       → JoinEnds O at d (outcome_of b (full s, left_of i)) (outcome_of a (full t, left_of j))
-      × At at j
+      × Here j
   join_ended d b a s t i j here (inl (k, e, f, put)) is =
       let P : Answer (V × Bool) → Answer (V × Bool) → S × W → Input T → Type 0 = λ b a t j.
       JoinEnds O at d (outcome_of b (full s, left_of i)) (outcome_of a (full t, left_of j)) in (
         subst (λ b. P b a t j) (sym e) (subst (λ a. P (Err k) a t j) (sym f)
             (subst (λ t. P (Err k) (Err k) t j) (sym is)
             (subst (λ j. P (Err k) (Err k) s j) (sym put) (by k)))),
-        at_same put here,
+        within_same put here,
       )
     where
       by : (k : Kind) → JoinEnds O at d (outcome_of (Err k) (full s, left_of i))
@@ -179,9 +190,9 @@ module _ {S W T V F G H : Type 0} {at : Setting} {units : List T → ℕ} {befor
 
   mutual
     tree_did : (call : lib.Call) (s : S × W) (i : Input T) (a : Answer (V × Bool)) (t : S × W)
-        (j : Input T) → At at i → TreeRuns Parts call s i a t j
+        (j : Input T) → Here i → TreeRuns Parts call s i a t j
         → TreeDoes O One Two at (call_as call) (full s) (left_of i)
-        (outcome_of a (full t, left_of j)) × At at j
+        (outcome_of a (full t, left_of j)) × Here j
     tree_did _ _ _ _ _ _ here (call_ends call s t i j k a ended same e) =
         let d = tree_ended p level call s t i j k a here ended same e in (tree_ends d.0, d.1)
     tree_did _ _ _ _ _ _ here (call_operand call s t u i j m v a read same tail) =
@@ -197,19 +208,20 @@ module _ {S W T V F G H : Type 0} {at : Setting} {units : List T → ℕ} {befor
         (tree_prefix (power, fold) d.0 less r.0 z.0, z.1)
 
     tail_did : (call : lib.Call) (v : V) (s : S × W) (i : Input T) (a : Answer (V × Bool))
-        (t : S × W) (j : Input T) → At at i → TailRuns Parts call v s i a t j
+        (t : S × W) (j : Input T) → Here i → TailRuns Parts call v s i a t j
         → TailDoes O One Two at (call_as call) v (full s) (left_of i)
-        (outcome_of a (full t, left_of j)) × At at j
+        (outcome_of a (full t, left_of j)) × Here j
     tail_did _ _ _ _ _ _ _ here (turn_ends call v s t i j a ended same) =
         let d = tail_ended p level call v s t i j a here ended same in (tail_ends d.0, d.1)
     tail_did _ _ _ _ _ _ _ here
         (turn_postfix call v r s t u i j m a (power, fold, n, read, reaches, folds, moved) same
         tail) =
         let d = next_did p level s u i n (Ok (postfix_read power fold)) here read same in
-        let c = tail_did call r u m a t j (p.keeps_behind fold n v (Ok r) m folds d.1) tail in (
+        let c = tail_did call r u m a t j
+        (within_end d.1 (p.folds.behind at.form fold n v (Ok r) m folds)) tail in (
           tail_postfix (power, fold) r d.0 reaches (
             took r (left_of m),
-            (n, Ok r, m, d.1, refl, folds, refl),
+            (n, Ok r, m, d.1.setting, refl, folds, refl),
             inr (moved, refl),
           ) c.0,
           c.1,
@@ -225,10 +237,10 @@ module _ {S W T V F G H : Type 0} {at : Setting} {units : List T → ℕ} {befor
         (tail_infix o d.0 (reaches, apart, moved) (subst P right r.0) z.0, z.1)
 
     join_did : (d : Open V (Prefix F) (Infix H)) (x : lib.Open V F H) (b : Answer (V × Bool))
-        (s : S × W) (i : Input T) (a : Answer (V × Bool)) (t : S × W) (j : Input T) → At at i
+        (s : S × W) (i : Input T) (a : Answer (V × Bool)) (t : S × W) (j : Input T) → Here i
         → JoinedRuns Parts x b s i a t j → x ≡ kept d
         → JoinDoes O One Two at d (outcome_of b (full s, left_of i))
-        (outcome_of a (full t, left_of j)) × At at j
+        (outcome_of a (full t, left_of j)) × Here j
     join_did d _ _ _ _ _ _ _ here (resume_ends x b a s t i j ended same) is =
         let r = join_ended d b a s t i j here (subst (λ x. ResumeEnds Parts x b i a j) is ended)
         same in
@@ -246,9 +258,9 @@ module _ {S W T V F G H : Type 0} {at : Setting} {units : List T → ℕ} {befor
         (subst B (sym e) (join_goes right v c.0 (subst P is r.0)), r.1)
 
   pub expression_did : (s : S × W) (i : Input T) (a : Answer V) (t : S × W) (j : Input T)
-      → At at i → ExpressionRuns Parts level s i a t j
+      → Here i → ExpressionRuns Parts level s i a t j
       → TreesDo O One Two level at (full s) (left_of i) (outcome_of a (full t, left_of j))
-      × At at j
+      × Here j
   expression_did s i (Ok v) t j here (all, r) =
       let d = tree_did (lib.call_at level (units i.left.tokens)) s i (Ok (v, all)) t j here r in
       ((took (v, all) (full t, left_of j), d.0, refl), d.1)
@@ -263,65 +275,50 @@ module _ {S W T V F G H : Type 0} {at : Setting} {units : List T → ℕ} {befor
       by (incomplete need) = refl
       by memory = refl
 
--- so is an expression of the level in its state
-pub trees_covered : {S W T L V F G H : Type 0} {at : Setting} (reading : Reading T L)
-    (before : DoesUnary F T V) (behind : DoesUnary G T V) (between : DoesBinary H T V)
+-- A call of an expression over parts that are covered; its level is a part of the state.
+pub leveled_ran : {S W T L V F G H : Type 0} (reading : Reading T L) (form : ErrorForm)
+    {before : DoesUnary F T V} {behind : DoesUnary G T V} {between : DoesBinary H T V}
     {first : Runs S T (First V F)} {next : Runs W T (Next G H)} (one : Does S T (V ⊎ Prefix F))
     (two : Does W T (Option (Postfix G ⊎ Infix H)))
-    → ((form : ErrorForm) (f : F) (i : Input T) (v : V) (a : Answer V) (j : Input T)
-    → before form f i v a j → IsEndOf reading j i)
-    → ((form : ErrorForm) (f : G) (i : Input T) (v : V) (a : Answer V) (j : Input T)
-    → behind form f i v a j → IsEndOf reading j i)
-    → ((form : ErrorForm) (f : H) (i : Input T) (l r : V) (a : Answer V) (j : Input T)
-    → between form f i l r a j → IsEndOf reading j i)
-    → Covers at first (OutputAs first_side one) → Covers at next (OutputAs next_side two)
-    → Covers at (LeveledRuns (grammar first next (behind at.form) (folding (before at.form)
-    (between at.form) reading.units (assert_kind at.form))))
-    (LeveledDo (operators reading.units before behind between) one two)
-trees_covered {T = T} {at = at} reading before behind between {first} {next} one two ends1
-    ends2 ends3 h1 h2 =
-    let p : PartsCovered at reading.units before behind between first next one two = record {
-      reads_first = h1;
-      reads_next = h2;
-      keeps_before = λ f i v a j r here.
-          at_end {reading = reading} here (ends1 at.form f i v a j r);
-      keeps_behind = λ f i v a j r here.
-          at_end {reading = reading} here (ends2 at.form f i v a j r);
-      keeps_between = λ f i l r a j x here.
-          at_end {reading = reading} here (ends3 at.form f i l r a j x);
-    } in
-    record {
-      covers = λ s i a t j here (r, same).
-          let d = expression_did p s.2 (s.0, s.1) i a (t.0, t.1) j here r in
+    → FoldsLeaveEnds reading before behind between → (s : S × W × ℤ) (i : Input T)
+    → Reads reading (setting_of form i) i first (OutputAs first_side one)
+    → Reads reading (setting_of form i) i next (OutputAs next_side two)
+    → (a : Answer V) (t : S × W × ℤ) (j : Input T)
+    → LeveledRuns (grammar first next (behind form) (folding (before form) (between form)
+    reading.units (assert_kind form))) s i a t j
+    → Ran reading (LeveledDo (operators reading.units before behind between) one two) form s i a t j
+leveled_ran reading form {before} {behind} {between} {first} {next} one two folds s i h1 h2 a t j =
+    let at = setting_of form i in
+    let p : PartsCovered reading at i before behind between first next one two =
+    record { reads_first = h1; reads_next = h2; folds = folds } in
+    reads_ran reading form {run = LeveledRuns (Parts p s.2)}
+    {does = LeveledDo (operators reading.units before behind between) one two} s i a t j (record {
+      reads = λ s i a t j here (run, same).
+          let d = expression_did p s.2 (s.0, s.1) i a (t.0, t.1) j here run in
           let P : ℤ → Type 0 = λ n. LeveledDo (operators reading.units before behind between) one
           two at s (left_of i) (outcome_of a ((t.0, t.1, n), left_of j)) in
           (subst P (sym same) d.0, d.1);
-    }
+    })
 
 -- a call of the machine over parts with definitions
 pub trees_ran : {S W T V L F G H : Type 0} (reading : Reading T L) (form : ErrorForm)
-    (before : DoesUnary F T V) (behind : DoesUnary G T V) (between : DoesBinary H T V)
+    {before : DoesUnary F T V} {behind : DoesUnary G T V} {between : DoesBinary H T V}
     (one : Does S T (V ⊎ Prefix F)) (two : Does W T (Option (Postfix G ⊎ Infix H)))
-    → ((form : ErrorForm) (f : F) (i : Input T) (v : V) (a : Answer V) (j : Input T)
-    → before form f i v a j → IsEndOf reading j i)
-    → ((form : ErrorForm) (f : G) (i : Input T) (v : V) (a : Answer V) (j : Input T)
-    → behind form f i v a j → IsEndOf reading j i)
-    → ((form : ErrorForm) (f : H) (i : Input T) (l r : V) (a : Answer V) (j : Input T)
-    → between form f i l r a j → IsEndOf reading j i)
+    → FoldsLeaveEnds reading before behind between
     → (level given : ℤ) (s : S × W) (i : Input T) (a : Answer V) (t : S × W) (j : Input T)
-    → IsEndOf reading j i
     → ExpressionRuns (grammar (Ran reading (OutputAs first_side one) form)
     (Ran reading (OutputAs next_side two) form) (behind form) (folding (before form) (between form)
     reading.units (assert_kind form))) given s i a t j → given ≡ level
     → Ran reading (LeveledDo (operators reading.units before behind between) one two) form
     (s.0, s.1, level) i a (t.0, t.1, level) j
-trees_ran reading form before behind between one two ends1 ends2 ends3 level given s i a t j ends
-    run same =
+trees_ran reading form {before} {behind} {between} one two folds level given s i a t j run same =
     let at = setting_of form i in
+    let first = OutputAs first_side one in
+    let next = OutputAs next_side two in
     let P : ℤ → Type 0 = λ l.
     Ran reading (LeveledDo (operators reading.units before behind between) one two) form
     (s.0, s.1, l) i a (t.0, t.1, l) j in
-    subst P same (covered_ran reading form (s.0, s.1, given) i a (t.0, t.1, given) j ends
-    (trees_covered reading before behind between one two ends1 ends2 ends3
-    (ran_covers reading (OutputAs first_side one) at)
-    (ran_covers reading (OutputAs next_side two) at)) (run, refl))
+    subst P same (leveled_ran reading form one two folds (s.0, s.1, given) i
+    (covered_reads (ran_covers reading first at) (ran_ends reading first form))
+    (covered_reads (ran_covers reading next at) (ran_ends reading next form)) a
+    (t.0, t.1, given) j (run, refl))

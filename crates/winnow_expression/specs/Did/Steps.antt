@@ -2,8 +2,9 @@
 use Rattle.std.specs.Prelude.{◌≡◌, ◌⊎◌, ℕ, ℤ, Bool, true, false, List, Option, Some, None}
 use Rattle.std.specs.Prelude.{◌≤ℤ◌, Ok, Err}
 use Rattle.std.proofs.Common.{refl, sym, subst, ap, ◌∙◌, inl, inr}
-use Rattle.streams.specs.Input.{Input}
+use Rattle.streams.specs.Input.{Input, IsEndOf}
 use Rattle.streams.specs.Kind.{Kind, backtrack, cut, incomplete, memory}
+use Rattle.streams.specs.Reading.{Reading}
 use Rattle.stream_errors.specs.Form.{Answer, assert_kind}
 use Rattle.parser_definitions.specs.Expression.{Call}
 use Rattle.parser_definitions.specs.Expression.{Operators}
@@ -14,7 +15,7 @@ use Rattle.parser_definitions.specs.Outcome.{Does, Outcome, Setting, asks, backs
 use Rattle.parser_definitions.specs.Outcome.{outcome_of, took, wants}
 use Rattle.parser_definitions.specs.Then.{ComesOf, Then}
 use Rattle.parser_definitions.specs.Then.Steps.{In, instead, same, where_took}
-use Rattle.winnow_core.specs.Covers.{At}
+use Rattle.winnow_core.specs.Covers.{at_end}
 use Rattle.winnow_core.specs.Runs.{Runs}
 use Rattle.winnow_expression.specs.Covers.Steps.{misuse}
 use Rattle.winnow_expression.specs.Covers.Trees.{call_kept}
@@ -25,7 +26,7 @@ use Rattle.winnow_expression.specs.Did.Parts.{as_first, as_next}
 use Rattle.winnow_expression.specs.Expression.{TailRuns, TreeRuns}
 use Rattle.winnow_expression.specs.Expression.{call_ends}
 use Rattle.winnow_expression.specs.Expression.{turn_ends}
-use Rattle.winnow_expression.specs.Folds.{DoesBinary, DoesUnary}
+use Rattle.winnow_expression.specs.Folds.{DoesBinary, DoesUnary, FoldsLeaveEnds}
 use Rattle.winnow_expression.specs.Grammar.{CallEnds, Folding, Grammar, TurnEnds, folding}
 use Rattle.winnow_expression.specs.Grammar.{grammar}
 use Rattle.winnow_expression.specs.Operators.{right_power}
@@ -43,13 +44,12 @@ abbrev pub FoldCame : {T V : Type 0} → Setting → (Answer V → Input T → T
     → Type 0
 FoldCame {T} {V} at R z = (a : Answer V) × (k : Left T) × R a (here at k) × (z ≡ outcome_of a k)
 
-pub folded : {T V : Type 0} {at : Setting} {runs : Input T → Answer V → Input T → Type 0}
-    {m : Left T}
-    {z : Outcome (Left T) V}
-    → ((i : Input T) (a : Answer V) (j : Input T) → runs i a j → At at i → At at j)
+pub folded : {T L V : Type 0} {reading : Reading T L} {at : Setting}
+    {runs : Input T → Answer V → Input T → Type 0} {m : Left T} {z : Outcome (Left T) V}
+    → ((i : Input T) (a : Answer V) (j : Input T) → runs i a j → IsEndOf reading j i)
     → Folded at m runs z → FoldCame at (λ a j. runs (here at m) a j) z
-folded {at = at} {runs} keeps (i, a, j, start, is, r, e) =
-    let end = keeps i a j r start in (
+folded {at = at} {runs} ends (i, a, j, start, is, r, e) =
+    let end = at_end start (ends i a j r) in (
       a,
       left_of j,
       subst (λ x. runs x a (here at (left_of j)))
@@ -112,8 +112,8 @@ all_is q all memory l y e = e
 
 -- ---- two parts
 
--- The outcomes of the parts are those of runs, and a fold leaves its input in the same setting.
-pub record PartsCame {S W T V F G H : Type 0} (at : Setting) (units : List T → ℕ)
+-- The outcomes of the parts are those of runs, and folds leave suffixes of their input.
+pub record PartsCame {S W T L V F G H : Type 0} (reading : Reading T L) (at : Setting)
     (before : DoesUnary F T V) (behind : DoesUnary G T V) (between : DoesBinary H T V)
     (first : Runs S T (First V F))
     (next : Runs W T (Next G H)) (one : Does S T (V ⊎ Prefix F))
@@ -122,18 +122,16 @@ pub record PartsCame {S W T V F G H : Type 0} (at : Setting) (units : List T →
       → Came at (λ a t j. first s (here at w) (as_first a) t j) y
   pub reads_next : (s : W) (w : Left T) (y : Outcome (End W T) (Option (Postfix G ⊎ Infix H)))
       → two at s w y → Came at (λ a t j. next s (here at w) (as_next a) t j) y
-  pub keeps_before : (f : F) (i : Input T) (v : V) (a : Answer V) (j : Input T)
-      → before at.form f i v a j → At at i → At at j
-  pub keeps_behind : (f : G) (i : Input T) (v : V) (a : Answer V) (j : Input T)
-      → behind at.form f i v a j → At at i → At at j
-  pub keeps_between : (f : H) (i : Input T) (l r : V) (a : Answer V) (j : Input T)
-      → between at.form f i l r a j → At at i → At at j
+  pub folds : FoldsLeaveEnds reading before behind between
 
-module _ {S W T V F G H : Type 0} {at : Setting} {units : List T → ℕ} {before : DoesUnary F T V}
-    {behind : DoesUnary G T V} {between : DoesBinary H T V} {first : Runs S T (First V F)}
-    {next : Runs W T (Next G H)} {one : Does S T (V ⊎ Prefix F)}
+module _ {S W T L V F G H : Type 0} {reading : Reading T L} {at : Setting}
+    {before : DoesUnary F T V} {behind : DoesUnary G T V} {between : DoesBinary H T V}
+    {first : Runs S T (First V F)} {next : Runs W T (Next G H)} {one : Does S T (V ⊎ Prefix F)}
     {two : Does W T (Option (Postfix G ⊎ Infix H))}
-    (p : PartsCame at units before behind between first next one two) where
+    (p : PartsCame reading at before behind between first next one two) where
+  abbrev units : List T → ℕ
+  units = reading.units
+
   abbrev pub Q : Type 0
   Q = S × W × ℤ
 
@@ -272,7 +270,7 @@ module _ {S W T V F G H : Type 0} {at : Setting} {units : List T → ℕ} {befor
       by (took (Some (inl x)) e) run (inr (reaches, (z, (u, f, c), fails))) =
           let (b, k, told, is) = checks at units (units w.tokens)
           (λ b j. behind at.form x.1 (here at e.1) v b j)
-          (folded (λ i a j. p.keeps_behind x.1 i v a j) f) c in
+          (folded (λ i a j. p.folds.behind at.form x.1 i v a j) f) c in
           folds x e run reaches b k told (subst (λ z. fails_as e.0 z y) is fails)
       by (took (Some (inr o)) e) (r, stays, level) (inl (less, is)) =
           ends (Ok (v, false)) (e.0, back w e.1) is

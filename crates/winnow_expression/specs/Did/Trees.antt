@@ -2,7 +2,7 @@
 use Rattle.std.specs.Prelude.{◌≡◌, ◌⊎◌, ℕ, ℤ, Bool, true, false, List, Option, Some}
 use Rattle.std.specs.Prelude.{Ok, Err}
 use Rattle.std.proofs.Common.{refl, subst, ◌∙◌, inl, inr}
-use Rattle.streams.specs.Input.{Input, IsEndOf}
+use Rattle.streams.specs.Input.{Input}
 use Rattle.streams.specs.Kind.{Kind, backtrack, cut, incomplete, memory}
 use Rattle.streams.specs.Reading.{Reading}
 use Rattle.stream_errors.specs.Form.{Answer, ErrorForm, assert_kind}
@@ -19,20 +19,20 @@ use Rattle.parser_definitions.specs.Outcome.{outcome_of, setting_of, took, wants
 use Rattle.parser_definitions.specs.Places.{FirstDoes, NextDoes}
 use Rattle.parser_definitions.specs.Then.{ComesOf}
 use Rattle.parser_definitions.specs.Then.Steps.{same}
-use Rattle.winnow_core.specs.Covers.{at_end}
 use Rattle.winnow_core.specs.Runs.{Runs}
-use Rattle.winnow_expression.specs.Covers.Parts.{first_covered, next_covered}
-use Rattle.winnow_expression.specs.Covers.Trees.{call_kept, kept, operator_kept, trees_covered}
-use Rattle.winnow_expression.specs.Did.{Came, Did, came_by, came_map, came_run, here}
+use Rattle.winnow_expression.specs.Covers.{ending_reads}
+use Rattle.winnow_expression.specs.Covers.Parts.{first_reads, next_reads}
+use Rattle.winnow_expression.specs.Covers.Trees.{call_kept, kept, leveled_ran, operator_kept}
+use Rattle.winnow_expression.specs.Did.{Came, came_by, came_map, came_run, here}
 use Rattle.winnow_expression.specs.Did.Steps as step
 use Rattle.winnow_expression.specs.Did.Steps.{Checks, FoldCame, PartsCame, all_is, checks, first_at}
 use Rattle.winnow_expression.specs.Did.Steps.{folded, next_at, tail_ended, took_came, tree_ended}
 use Rattle.winnow_expression.specs.Did.Parts.{first_came, next_came}
-use Rattle.winnow_expression.specs.Ending.{Ending, ending_covers}
+use Rattle.winnow_expression.specs.Ending.{Ending}
 use Rattle.winnow_expression.specs.Expression.{JoinedRuns, LeveledRuns}
 use Rattle.winnow_expression.specs.Expression.{call_operand, call_prefix, resume_ends}
 use Rattle.winnow_expression.specs.Expression.{resume_goes, turn_infix, turn_postfix}
-use Rattle.winnow_expression.specs.Folds.{DoesBinary, DoesUnary}
+use Rattle.winnow_expression.specs.Folds.{DoesBinary, DoesUnary, FoldsLeaveEnds}
 use Rattle.winnow_expression.specs.Grammar.{Closes}
 use Rattle.winnow_expression.specs.Operators.{fold_of, right_power}
 use Rattle.winnow_expression.specs.Parts.{PartsDo, did_grammar}
@@ -44,11 +44,14 @@ use Rattle.winnow_expression.specs.declared.combinator.operators.Prefix.{Prefix}
 use Rattle.winnow_expression.specs.declared.combinator.places.First.{First}
 use Rattle.winnow_expression.specs.declared.combinator.places.Next.{Next}
 
-module _ {S W T V F G H : Type 0} {at : Setting} {units : List T → ℕ} {before : DoesUnary F T V}
-    {behind : DoesUnary G T V} {between : DoesBinary H T V} {first : Runs S T (First V F)}
-    {next : Runs W T (Next G H)} {one : Does S T (V ⊎ Prefix F)}
+module _ {S W T L V F G H : Type 0} {reading : Reading T L} {at : Setting}
+    {before : DoesUnary F T V} {behind : DoesUnary G T V} {between : DoesBinary H T V}
+    {first : Runs S T (First V F)} {next : Runs W T (Next G H)} {one : Does S T (V ⊎ Prefix F)}
     {two : Does W T (Option (Postfix G ⊎ Infix H))}
-    (p : PartsCame at units before behind between first next one two) where
+    (p : PartsCame reading at before behind between first next one two) where
+  abbrev units : List T → ℕ
+  units = reading.units
+
   abbrev Q : Type 0
   Q = S × W × ℤ
 
@@ -69,10 +72,10 @@ module _ {S W T V F G H : Type 0} {at : Setting} {units : List T → ℕ} {befor
   closed : (x : Prefix F ⊎ (V × Infix H)) (turn : ℕ) (m : Left T) (v : V)
       (z : Outcome (Left T) V) → FoldsOpen (step.O p) at x turn m v z
       → FoldCame at (λ a j. Closes (step.Folds p) (operator_kept x) turn (here at m) v a j) z
-  closed (inl x) turn m v z f = folded (λ i a j. p.keeps_before x.1 i v a j) f
+  closed (inl x) turn m v z f = folded (λ i a j. p.folds.before at.form x.1 i v a j) f
   closed (inr o) turn m v z (u, f, c) =
       checks at units turn (λ b j. between at.form (fold_of o.1) (here at m) o.0 v b j)
-      (folded (λ i a j. p.keeps_between (fold_of o.1) i o.0 v a j) f) c
+      (folded (λ i a j. p.folds.between at.form (fold_of o.1) i o.0 v a j) f) c
 
   join_ended : (x : Open V (Prefix F) (Infix H)) (R : Answer (V × Bool) → Q → Input T → Type 0)
       (z y : Outcome (End Q T) (V × Bool)) → JoinEnds (step.O p) at x z y → Came at R z
@@ -160,7 +163,8 @@ module _ {S W T V F G H : Type 0} {at : Setting} {units : List T → ℕ} {befor
         let Fold : Answer V → Input T → Type 0 =
         λ b j. behind at.form x.1 (here at m) v b j in
         let told = took_came at (Checks units (assert_kind at.form) (units w.tokens) Fold)
-        (checks at units (units w.tokens) Fold (folded (λ i a j. p.keeps_behind x.1 i v a j) f) c)
+        (checks at units (units w.tokens) Fold
+        (folded (λ i a j. p.folds.behind at.form x.1 i v a j) f) c)
         in
         let (fold, moved) = kept_output Fold told in
         came_map at {R = TailAt call o u k} {M = TailAt call v q w} (λ a t j (more, same). (
@@ -216,23 +220,18 @@ module _ {S W T V F G H : Type 0} {at : Setting} {units : List T → ℕ} {befor
 -- A call of an expression is a run of its trees over calls of its parts. Where memory runs out, it
 -- is one up to the state and the rest.
 pub expression_came : {S1 S2 S3 S4 T V L F G H : Type 0} (reading : Reading T L) (form : ErrorForm)
-    (before : DoesUnary F T V) (behind : DoesUnary G T V) (between : DoesBinary H T V)
+    {before : DoesUnary F T V} {behind : DoesUnary G T V} {between : DoesBinary H T V}
     (d1 : Does S1 T V) (d2 : Does S2 T (Prefix F)) (d3 : Does S3 T (Postfix G))
     (d4 : Does S4 T (Infix H))
-    → ((form : ErrorForm) (f : F) (i : Input T) (v : V) (a : Answer V) (j : Input T)
-    → before form f i v a j → IsEndOf reading j i)
-    → ((form : ErrorForm) (f : G) (i : Input T) (v : V) (a : Answer V) (j : Input T)
-    → behind form f i v a j → IsEndOf reading j i)
-    → ((form : ErrorForm) (f : H) (i : Input T) (l r : V) (a : Answer V) (j : Input T)
-    → between form f i l r a j → IsEndOf reading j i)
+    → FoldsLeaveEnds reading before behind between
     → (s : (S1 × S2) × (S3 × S4) × ℤ) (i : Input T) (a : Answer V)
     (t : (S1 × S2) × (S3 × S4) × ℤ) (j : Input T)
-    → Did (PartsDo reading d1 d2 d3 d4 before behind between) form s i a t j
+    → Ran reading (PartsDo reading d1 d2 d3 d4 before behind between) form s i a t j
     → (u : (S1 × S2) × (S3 × S4) × ℤ) × (k : Input T)
     × LeveledRuns (did_grammar reading form d1 d2 d3 d4 before behind between) s i a u k
     × ((a ≡ Err memory → ⊥) → (u ≡ t) × (k ≡ j))
-expression_came {S1} {S2} {S3} {S4} {T} {V} reading form before behind between d1 d2 d3 d4
-    ends1 ends2 ends3 s i a t j (more, possible, (x, d, is)) =
+expression_came {S1} {S2} {S3} {S4} {T} {V} reading form {before} {behind} {between} d1 d2 d3 d4
+    folds s i a t j (ends, more, possible, (x, d, is)) =
     came_run at Whole a t j more possible
     (by x (tree_came parts (call_at s.2 (reading.units i.left.tokens)) s (left_of i) x d) is)
   where
@@ -242,7 +241,7 @@ expression_came {S1} {S2} {S3} {S4} {T} {V} reading form before behind between d
     Q : Type 0
     Q = (S1 × S2) × (S3 × S4) × ℤ
 
-    parts : PartsCame at reading.units before behind between
+    parts : PartsCame reading at before behind between
         (FirstRuns (Ran reading d1 form) (Ran reading d2 form))
         (NextRuns reading.units (Ran reading d3 form) (Ran reading d4 form))
         (FirstDoes (Ending reading d1) (Ending reading d2))
@@ -250,12 +249,7 @@ expression_came {S1} {S2} {S3} {S4} {T} {V} reading form before behind between d
     parts = record {
       reads_first = first_came reading at d1 d2;
       reads_next = next_came reading at d3 d4;
-      keeps_before = λ f i v a j r here.
-          at_end {reading = reading} here (ends1 at.form f i v a j r);
-      keeps_behind = λ f i v a j r here.
-          at_end {reading = reading} here (ends2 at.form f i v a j r);
-      keeps_between = λ f i l r a j x here.
-          at_end {reading = reading} here (ends3 at.form f i l r a j x);
+      folds = folds;
     }
 
     Whole : Answer V → Q → Input T → Type 0
@@ -274,27 +268,18 @@ expression_came {S1} {S2} {S3} {S4} {T} {V} reading form before behind between d
     by wants (e, r) is = came_by at Whole (Err memory) e is r
 
 -- and each such run is a call of the expression
-pub expression_did : {S1 S2 S3 S4 T V L F G H : Type 0} (reading : Reading T L) (form : ErrorForm)
-    (before : DoesUnary F T V) (behind : DoesUnary G T V) (between : DoesBinary H T V)
+pub expression_ran : {S1 S2 S3 S4 T V L F G H : Type 0} (reading : Reading T L) (form : ErrorForm)
+    {before : DoesUnary F T V} {behind : DoesUnary G T V} {between : DoesBinary H T V}
     (d1 : Does S1 T V) (d2 : Does S2 T (Prefix F)) (d3 : Does S3 T (Postfix G))
     (d4 : Does S4 T (Infix H))
-    → ((form : ErrorForm) (f : F) (i : Input T) (v : V) (a : Answer V) (j : Input T)
-    → before form f i v a j → IsEndOf reading j i)
-    → ((form : ErrorForm) (f : G) (i : Input T) (v : V) (a : Answer V) (j : Input T)
-    → behind form f i v a j → IsEndOf reading j i)
-    → ((form : ErrorForm) (f : H) (i : Input T) (l r : V) (a : Answer V) (j : Input T)
-    → between form f i l r a j → IsEndOf reading j i)
+    → FoldsLeaveEnds reading before behind between
     → (s : (S1 × S2) × (S3 × S4) × ℤ) (i : Input T) (a : Answer V)
     (t : (S1 × S2) × (S3 × S4) × ℤ) (j : Input T)
     → LeveledRuns (did_grammar reading form d1 d2 d3 d4 before behind between) s i a t j
-    → Did (PartsDo reading d1 d2 d3 d4 before behind between) form s i a t j
-expression_did reading form before behind between d1 d2 d3 d4 ends1 ends2 ends3 s i a t j run =
+    → Ran reading (PartsDo reading d1 d2 d3 d4 before behind between) form s i a t j
+expression_ran reading form {before} {behind} {between} d1 d2 d3 d4 folds s i =
     let at = setting_of form i in
-    let told = (trees_covered reading before behind between
-    (FirstDoes (Ending reading d1) (Ending reading d2))
-    (NextDoes reading.units (Ending reading d3) (Ending reading d4)) ends1 ends2 ends3
-    (first_covered (ending_covers reading d1 at) (ending_covers reading d2 at))
-    (next_covered reading.units (ending_covers reading d3 at) (ending_covers reading d4 at))).covers
-    s i a t j
-    (record { more = refl; possible = refl }) run in
-    (told.1.more, told.1.possible, told.0)
+    leveled_ran reading form (FirstDoes (Ending reading d1) (Ending reading d2))
+    (NextDoes reading.units (Ending reading d3) (Ending reading d4)) folds s i
+    (first_reads (ending_reads reading d1 at i) (ending_reads reading d2 at i))
+    (next_reads (ending_reads reading d3 at i) (ending_reads reading d4 at i))

@@ -142,7 +142,7 @@ gives_both_alike fold f single = record {
 
 -- ---- ends
 
--- in a stream that keeps no place, an item leaves an end
+-- in a stream that keeps no place, an item leaves a suffix
 pub item_end : {T O L : Type 0} (reading : Reading T L) (item : Items T O)
     → ((p : Place) (n : ℕ) → reading.advance p n ≡ p) → AreItems reading.units item
     → (i : Input T) (o : O) (rest : List T) → item i.left.tokens o rest

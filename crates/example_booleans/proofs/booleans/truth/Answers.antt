@@ -1,4 +1,4 @@
-use Rattle.std.proofs.Common.{◌≡◌, ◌∙◌, ℤ, pos, subst}
+use Rattle.std.proofs.Common.{◌≡◌, ◌∙◌, ℤ, pos, refl, subst}
 use Rattle.std.specs.Prelude.{◌⊎◌, ⊤}
 use Rattle.streams.specs.Bytes.{bytes_input, bytes_reading}
 use Rattle.streams.specs.Kind.{backtrack, memory}
@@ -24,12 +24,14 @@ returns-clause-reads g c =
     (ByteItem infix_at) not_value not_value logic_value l (bytes_input c.args.input.now.now)
     (answer_by (λ e. marked_kind e.is_memory) c.parse_next.result)
     (bytes_input c.parse_next.new.input.now)) zero
-    (items_exact bytes_reading plain backtrack (ByteItem operand_at) (ByteItem prefix_at)
+    (items_exact bytes_reading plain backtrack (λ p n. refl) (ByteItem operand_at)
+    (ByteItem prefix_at)
     (ByteItem postfix_at) (ByteItem infix_at) not_value not_value logic_value tt tt tt tt
     (byte_items operand_at) (byte_items prefix_at) (byte_items postfix_at) (byte_items infix_at)
     level (bytes_input c.args.input.now.now) _ _ states
     (c.expression_is_unambiguous.ensures.exact state
-    (items_premises bytes_reading plain backtrack (ByteItem operand_at) (ByteItem prefix_at)
+    (items_premises bytes_reading plain backtrack (λ p n. refl) (ByteItem operand_at)
+    (ByteItem prefix_at)
     (ByteItem postfix_at) (ByteItem infix_at) not_value not_value logic_value tt tt tt tt
     (byte_items operand_at) (byte_items prefix_at) (byte_items postfix_at) (byte_items infix_at)
     one_not one_not one_logic)
@@ -45,13 +47,15 @@ returns-clause-fails g c =
     (λ k. (k ≡ memory)
     ⊎ ((k ≡ backtrack) × LacksOperand c.args.input.now.now c.parse_next.new.input.now))
     c.parse_next.result
-    (fails_at_items bytes_reading plain backtrack (ByteItem operand_at) (ByteItem prefix_at)
+    (fails_at_items bytes_reading plain backtrack (λ p n. refl) (ByteItem operand_at)
+    (ByteItem prefix_at)
     (ByteItem postfix_at) (ByteItem infix_at) not_value not_value logic_value
     (byte_items operand_at) (byte_items prefix_at) (byte_items postfix_at) (byte_items infix_at)
     some_not some_not
     some_logic level (bytes_input c.args.input.now.now) _ states _
     (c.expression_is_unambiguous.ensures.exact state
-    (items_premises bytes_reading plain backtrack (ByteItem operand_at) (ByteItem prefix_at)
+    (items_premises bytes_reading plain backtrack (λ p n. refl) (ByteItem operand_at)
+    (ByteItem prefix_at)
     (ByteItem postfix_at) (ByteItem infix_at) not_value not_value logic_value tt tt tt tt
     (byte_items operand_at) (byte_items prefix_at) (byte_items postfix_at) (byte_items infix_at)
     one_not one_not one_logic)

@@ -6,5 +6,6 @@ pub returns : goal.returns
 returns g c =
     c.spans_are_stateless.ensures.span 43
     (c.deterministic_parts_are_stateless.ensures 43 tt
-    (did_stays (LiteralDoes g.I.Stream.reading g.I.Compare.spells (λ s _. s)) g.E.HasKind.form 43
+    (did_stays g.I.Stream.reading (LiteralDoes g.I.Stream.reading g.I.Compare.spells (λ s _. s))
+    g.E.HasKind.form 43
     (literal_stays g.I.Stream.reading g.I.Compare.spells (λ s _. s) 43)))

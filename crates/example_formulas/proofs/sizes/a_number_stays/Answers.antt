@@ -8,5 +8,5 @@ use Rattle.example_formulas.proofs.sizes.a_number_stays.Goals as goal
 pub returns : goal.returns
 returns g c =
     let numbers = unsigned_numbers g.O.Uint.number g.O.Uint.bound in
-    did_stays (NumberDoes numbers (λ x. x) (λ x. x) bytes_reading) plain tt
+    did_stays bytes_reading (NumberDoes numbers (λ x. x) (λ x. x) bytes_reading) plain tt
     (number_stays (λ x. x) (λ x. x) bytes_reading numbers tt)

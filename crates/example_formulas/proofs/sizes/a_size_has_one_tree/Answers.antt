@@ -1,4 +1,5 @@
 use Rattle.std.proofs.Common.{◌≡◌}
+use Rattle.winnow.specs.Bytes.{bytes_reading}
 use Rattle.winnow.specs.Form.{plain}
 use Rattle.winnow.specs.Premises.{AlikePrefix}
 use Rattle.winnow.specs.Premises.Laws.{fail_stateless}
@@ -15,7 +16,7 @@ returns c = record {
       (stateless_wider (λ o p like. like)
       (c.deterministic_parts_are_stateless.ensures _ tt
       c.a_number_stays.ensures)).decided
-      (fail_stateless (AlikePrefix (λ f g. f ≡ g)) plain tt).decided
+      (fail_stateless bytes_reading (AlikePrefix (λ f g. f ≡ g)) plain tt).decided
       (stateless_wider (λ o p like. equal_postfixes o p
       (clones_equal c.unit_clones_are_equal.ensures o p like))
       (c.deterministic_parts_are_stateless-2.ensures _ (tt, tt)

@@ -20,6 +20,7 @@ byte_stays x = literal_stays bytes_reading (λ s xs. xs ≡ s ∷ []) (λ s (_ :
 pub returns : goal.returns
 returns g c = λ x y u v.
     let mark = ValueDoes g.O.Clone.is_clone g.O.Clone.is_infallible byte in
-    did_stays (AltDoes mark mark) plain ((x, u), (y, v)) (choice_stays mark mark (x, u) (y, v)
+    did_stays bytes_reading (AltDoes mark mark) plain ((x, u), (y, v))
+    (choice_stays mark mark (x, u) (y, v)
     (value_stays g.O.Clone.is_clone g.O.Clone.is_infallible byte x u (byte_stays x))
     (value_stays g.O.Clone.is_clone g.O.Clone.is_infallible byte y v (byte_stays y)))

@@ -2,8 +2,8 @@ use Rattle.std.proofs.Common.{◌≡◌, ◌∙◌, ap, pos}
 use Rattle.winnow.specs.Bytes.{bytes_reading}
 use Rattle.winnow.specs.Form.{plain}
 use Rattle.winnow.specs.Expression.{infix_of, postfix_of}
-use Rattle.winnow.specs.Premises.Laws.{fail_moves, fail_stateless}
-use Rattle.winnow.specs.Premises.Decided.{fewer_falls, stateless_wider}
+use Rattle.winnow.specs.Premises.Laws.{fail_stateless}
+use Rattle.winnow.specs.Premises.Decided.{stateless_wider}
 use Rattle.example_formulas.specs.Sizes.{SizeStates, marks_of, sign_marks, unit_marks}
 use Rattle.example_formulas.proofs.Results.{exact_at, same_signs, same_units}
 use Rattle.example_formulas.proofs.SameTrees.{clones_equal}
@@ -26,7 +26,7 @@ returns-clause-reads g c =
       operands = stateless_wider (λ o p like. like)
           (c.deterministic_parts_are_stateless.ensures _ tt
           c.a_number_stays.ensures);
-      prefixes = fail_stateless _ plain tt;
+      prefixes = fail_stateless bytes_reading _ plain tt;
       postfixes = stateless_wider (λ o p like. same_units o p
           (clones_equal c.unit_clones_are_equal.ensures o p like))
           (c.deterministic_parts_are_stateless-2.ensures _ (tt, tt)
@@ -35,18 +35,6 @@ returns-clause-reads g c =
           (clones_equal c.sign_clones_are_equal.ensures o p like))
           (c.deterministic_parts_are_stateless-3.ensures _ (tt, tt)
           (c.marks_stay-2.ensures _ _ _ _));
-      operands_fall = λ i j o t r.
-          fewer_falls bytes_reading.units i j (c.a_number_consumes.ensures i j o t r);
-      prefixes_fall = λ i j o t r.
-          fewer_falls bytes_reading.units i j (fail_moves bytes_reading.units plain tt i j o t r);
-      postfixes_fall = λ i j o t r. fewer_falls bytes_reading.units i j
-          (c.a_choice_consumes-2.ensures _ _
-          (c.a_value_consumes-2.ensures _ _ (c.a_byte_consumes.ensures _))
-          (c.a_value_consumes-2.ensures _ _ (c.a_byte_consumes.ensures _)) i j o t r);
-      infixes_fall = λ i j o t r. fewer_falls bytes_reading.units i j
-          (c.a_choice_consumes.ensures _ _
-          (c.a_value_consumes.ensures _ _ (c.a_byte_consumes.ensures _))
-          (c.a_value_consumes.ensures _ _ (c.a_byte_consumes.ensures _)) i j o t r);
       neither_moves = λ i j o p t r e. c.a_choice_consumes.ensures _ _
           (c.a_value_consumes.ensures _ _ (c.a_byte_consumes.ensures _))
           (c.a_value_consumes.ensures _ _ (c.a_byte_consumes.ensures _)) i j o t r;

@@ -1,8 +1,6 @@
 use Rattle.std.proofs.Common.{Err}
-use Rattle.stream_errors.specs.Form.{assert_kind}
-use Rattle.parser_definitions.specs.Does.{Ran}
-use Rattle.winnow_core.specs.Covers.{ran_ends}
-use Rattle.winnow_expression.specs.Did.Trees.{expression_came, expression_did}
+use Rattle.winnow_expression.specs.Did.Trees.{expression_came, expression_ran}
+use Rattle.winnow_expression.specs.Folds.{FoldsLeaveEnds}
 use Rattle.winnow_expression.specs.Parts.{did_grammar}
 use Rattle.winnow_expression_trees.proofs.FourParts.{plain_parts}
 use Rattle.winnow_expression_trees.proofs.Plain.{not_memory}
@@ -17,12 +15,15 @@ returns g c =
     let reading = g.I.Stream.reading in
     let whole = did_grammar reading form g.P.Parser.does g.Pre.Parser.does g.Post.Parser.does
     g.Pix.Parser.does g.F.FoldUnary.folds g.G.FoldUnary.folds g.H.FoldBinary.folds in
-    let plain = plain_parts reading (assert_kind form) (Ran reading g.P.Parser.does form)
-    (Ran reading g.Pre.Parser.does form) (Ran reading g.Post.Parser.does form)
-    (Ran reading g.Pix.Parser.does form) (g.F.FoldUnary.folds form) (g.G.FoldUnary.folds form)
-    (g.H.FoldBinary.folds form) g.A.Likeness.alike (ran_ends reading g.P.Parser.does form)
-    (ran_ends reading g.Pre.Parser.does form) (ran_ends reading g.Post.Parser.does form)
-    (ran_ends reading g.Pix.Parser.does form) in
+    let folds : FoldsLeaveEnds reading g.F.FoldUnary.folds g.G.FoldUnary.folds
+    g.H.FoldBinary.folds = record {
+      before = g.met.F.FoldUnary.leaves_ends;
+      behind = g.met.G.FoldUnary.leaves_ends;
+      between = g.met.H.FoldBinary.leaves_ends;
+    } in
+    let plain = plain_parts reading form g.P.Parser.does g.Pre.Parser.does g.Post.Parser.does
+    g.Pix.Parser.does g.F.FoldUnary.folds g.G.FoldUnary.folds g.H.FoldBinary.folds
+    g.A.Likeness.alike in
     record {
       asserts = λ s pr i k t j runs.
           failure_excludes (plain s.0.0 s.0.1 s.1.0 s.1.1 pr) s.2 i k (t.0, t.1) j
@@ -34,20 +35,14 @@ returns g c =
       kind = failure_told whole;
       within = asserting_accepts whole;
       run = λ s i answer t j runs.
-          expression_did reading form g.F.FoldUnary.folds g.G.FoldUnary.folds
-          g.H.FoldBinary.folds g.P.Parser.does g.Pre.Parser.does g.Post.Parser.does
-          g.Pix.Parser.does g.met.F.FoldUnary.leaves_ends g.met.G.FoldUnary.leaves_ends
-          g.met.H.FoldBinary.leaves_ends s i answer t j (accepting_runs whole s i answer t j runs);
+          expression_ran reading form g.P.Parser.does g.Pre.Parser.does g.Post.Parser.does
+          g.Pix.Parser.does folds s i answer t j (accepting_runs whole s i answer t j runs);
       either = λ s i answer t j ran.
-          let (u, k, runs, same) = expression_came reading form g.F.FoldUnary.folds
-          g.G.FoldUnary.folds g.H.FoldBinary.folds g.P.Parser.does g.Pre.Parser.does
-          g.Post.Parser.does g.Pix.Parser.does g.met.F.FoldUnary.leaves_ends
-          g.met.G.FoldUnary.leaves_ends g.met.H.FoldBinary.leaves_ends s i answer t j
-          (ran.1, ran.2, ran.3) in (
+          let (u, k, runs, same) = expression_came reading form g.P.Parser.does g.Pre.Parser.does
+          g.Post.Parser.does g.Pix.Parser.does folds s i answer t j ran in (
             u,
             k,
             leveled_accepts whole s i answer u k runs,
-            λ other. same
-                (not_memory answer other),
+            λ other. same (not_memory answer other),
           );
     }
