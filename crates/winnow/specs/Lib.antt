@@ -107,7 +107,7 @@ pub use Rattle.stream_recovery.specs.Recorded
 -- Definitions of parsers: from a state and an input to an outcome.
 pub use Rattle.parser_definitions.specs.Alt as AltDefinition
 pub use Rattle.parser_definitions.specs.AltMany
-pub use Rattle.parser_definitions.specs.Any as AnyDefinition
+pub use Rattle.parser_definitions.specs.Any
 pub use Rattle.parser_definitions.specs.BitBool
 pub use Rattle.parser_definitions.specs.BitTake as BitTakeDefinition
 pub use Rattle.parser_definitions.specs.BitsOfBytes as BitsOfBytesDefinition
@@ -163,7 +163,7 @@ pub use Rattle.parser_definitions.specs.Projects
 pub use Rattle.parser_definitions.specs.Recover as RecoverDefinition
 pub use Rattle.parser_definitions.specs.Repeat as RepeatDefinition
 pub use Rattle.parser_definitions.specs.RepeatTill as RepeatTillDefinition
-pub use Rattle.parser_definitions.specs.Rest as RestDefinition
+pub use Rattle.parser_definitions.specs.Rest
 pub use Rattle.parser_definitions.specs.Resume
 pub use Rattle.parser_definitions.specs.Retry
 pub use Rattle.parser_definitions.specs.Separated as SeparatedDefinition
@@ -199,7 +199,6 @@ pub use Rattle.winnow_core.specs.FlatMap
 pub use Rattle.winnow_core.specs.Func
 pub use Rattle.winnow_core.specs.Literal
 pub use Rattle.winnow_core.specs.Longer
-pub use Rattle.winnow_core.specs.MakesOutput
 pub use Rattle.winnow_core.specs.Parse
 pub use Rattle.winnow_core.specs.ParseIter
 pub use Rattle.winnow_core.specs.ParsePeek
@@ -212,13 +211,11 @@ pub use Rattle.winnow_core.specs.Tells
 pub use Rattle.winnow_core.specs.TryMap
 pub use Rattle.winnow_core.specs.Value
 -- The parsers of tokens.
-pub use Rattle.winnow_token.specs.Any
 pub use Rattle.winnow_token.specs.Before
 pub use Rattle.winnow_token.specs.Elsewhere
 pub use Rattle.winnow_token.specs.Members
 pub use Rattle.winnow_token.specs.NoneOf
 pub use Rattle.winnow_token.specs.OneOf
-pub use Rattle.winnow_token.specs.Rest
 pub use Rattle.winnow_token.specs.Take
 pub use Rattle.winnow_token.specs.TakeTill
 pub use Rattle.winnow_token.specs.TakeUntil
@@ -279,6 +276,7 @@ pub use Rattle.winnow_bits.specs.Needs
 pub use Rattle.winnow_expression.specs.Calls
 pub use Rattle.winnow_expression.specs.Definition
 pub use Rattle.winnow_expression.specs.Did
+pub use Rattle.winnow_expression.specs.Ending
 pub use Rattle.winnow_expression.specs.Expression
 pub use Rattle.winnow_expression.specs.Folds
 pub use Rattle.winnow_expression.specs.Machine

@@ -14,7 +14,6 @@ use Rattle.parser_definitions.specs.Then.{Comes, ComesOf}
 use Rattle.parser_definitions.specs.Then.Steps.{hands_on, where_took}
 pub mod Functions
 pub mod Leaves
-pub mod Outputs
 
 -- The input has the setting's flag for partial input, and whether its tokens can be read is that of
 -- the setting.

@@ -16,7 +16,6 @@ pub mod Func
 pub mod Laws
 pub mod Literal
 pub mod Longer
-pub mod MakesOutput
 pub mod Parse
 pub mod ParseIter
 pub mod ParsePeek

@@ -10,67 +10,17 @@ use Rattle.stream_errors.specs.Form.{Answer, ErrorForm, assert_kind, incomplete_
 use Rattle.stream_sets.specs.Range.{Bounds, IsWithin}
 use Rattle.stream_sets.specs.Longest.{IsLongest}
 use Rattle.grammars.specs.Grammar.Searches.Unique.{match_before}
-use Rattle.winnow_token.specs.Any.{AnyRuns}
-use Rattle.winnow_token.specs.OneOf.{OneOfRuns}
 use Rattle.winnow_token.specs.TakeWhile.{TakeWhileRuns}
 use Rattle.winnow_token.specs.TakeUntil.{TakeUntilRuns}
-use Rattle.winnow_token.specs.Rest.{RestRuns, RestLenRuns}
-use Rattle.parser_definitions.specs.Any.{AnyDoes}
-use Rattle.parser_definitions.specs.OneOf.{OneOfDoes}
 use Rattle.parser_definitions.specs.TakeWhile.{TakeWhileDoes}
 use Rattle.parser_definitions.specs.TakeUntil.{TakeUntilDoes}
-use Rattle.parser_definitions.specs.Rest.{RestDoes, RestLenDoes}
 use Rattle.parser_definitions.specs.Left.{left_of}
-use Rattle.parser_definitions.specs.Outcome.{lacks, outcome_of}
-use Rattle.parser_definitions.specs.Outcome.{setting_of}
+use Rattle.parser_definitions.specs.Outcome.{outcome_of, setting_of}
 use Rattle.parser_definitions.specs.Members.{missing_of}
 use Rattle.winnow_core.specs.Covers.{gave, left_at}
 use Rattle.winnow_core.specs.Covers.Leaves.{passed_of, short, misuse}
 
 module _ {S : Type 0} (s : S) (form : ErrorForm) where
-  pub any_ran : {K T L : Type 0} (seen : K → T) (reading : Reading T L) (i : Input T)
-      (answer : Answer K) (j : Input T)
-      → AnyRuns seen reading form i answer j
-      → AnyDoes seen reading (setting_of form i) s (left_of i) (outcome_of answer (s, left_of j))
-  any_ran seen reading i answer j (inl (k, p, e)) =
-      inl (k, left_of j, passed_of p, gave (s, left_of j) e)
-  any_ran seen reading i answer j (inr (k, none, kind, e, same)) =
-      inr (
-        none,
-        gave (s, left_of j) e ∙ left_at s (Err k) same
-            ∙ short form (Some 1) i k (s, left_of i) kind,
-      )
-
-  pub rest_ran : {T L : Type 0} (reading : Reading T L) (i : Input T) (answer : Answer L)
-      (j : Input T)
-      → RestRuns reading i answer j
-      → RestDoes reading (setting_of form i) s (left_of i) (outcome_of answer (s, left_of j))
-  rest_ran reading i answer j (v, t, none, e) =
-      (v, left_of j, (t.shown, passed_of t.passed, none), gave (s, left_of j) e)
-
-  pub rest_len_ran : {T L : Type 0} (reading : Reading T L) (i : Input T) (answer : Answer ℕ)
-      (j : Input T)
-      → RestLenRuns reading i answer j
-      → RestLenDoes reading (setting_of form i) s (left_of i) (outcome_of answer (s, left_of j))
-  rest_len_ran reading i answer j (e, same) =
-      (reading.units i.left.tokens, left_of j, (refl, ap left_of same), gave (s, left_of j) e)
-
-  pub one_of_ran : {K T L : Type 0} (seen : K → T) (reading : Reading T L)
-      (tells : S → K → Bool → Type 0) (i : Input T) (answer : Answer K) (j : Input T)
-      → OneOfRuns seen reading form (tells s) i answer j
-      → OneOfDoes seen reading tells (setting_of form i) s (left_of i)
-      (outcome_of answer (s, left_of j))
-  one_of_ran seen reading tells i answer j (inl (k, p, has, e)) =
-      inl (k, left_of j, (passed_of p, has), gave (s, left_of j) e)
-  one_of_ran seen reading tells i answer j (inr (inl (k, rest, split, lacks, e, same))) =
-      inr (inl ((k, rest, split, lacks), gave (s, left_of j) e ∙ left_at s (Err backtrack) same))
-  one_of_ran seen reading tells i answer j (inr (inr (k, none, kind, e, same))) =
-      inr (inr (
-        none,
-        gave (s, left_of j) e ∙ left_at s (Err k) same
-            ∙ short form (Some 1) i k (s, left_of i) kind,
-      ))
-
   pub take_while_ran : {T L : Type 0} (reading : Reading T L) (member : S → T → Bool → Type 0)
       (bounds : S → Bounds) (i : Input T) (answer : Answer L) (j : Input T)
       → TakeWhileRuns reading form (member s) (bounds s) i answer j

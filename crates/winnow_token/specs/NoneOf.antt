@@ -1,4 +1,4 @@
--- One token outside a set: its runs are those of one token of the set of the others.
+-- One token outside a set.
 use Rattle.winnow_token.specs.declared.token.impls.none_of.NoneOf.{NoneOf}
 
 -- the set that the token must not belong to

@@ -2,13 +2,13 @@
 #![tactic(auto, using(streams::specs::Ends::ends_follow))]
 
 ghost use Rattle.std.specs.Prelude.{◌≡◌};
+ghost use Rattle.parser_definitions.specs.Any.{AnyDoes};
+ghost use Rattle.parser_definitions.specs.Does.{Ran};
+ghost use Rattle.parser_definitions.specs.Rest.{RestDoes, RestLenDoes};
 ghost use Rattle.stream_errors.specs.Form.{answer_by};
-ghost use Rattle.streams.specs.Input.{IsEndOf};
-ghost use Rattle.winnow_token.specs.Any.{AnyRuns};
 ghost use Rattle.winnow_token.specs.Literal.{literal_value};
 ghost use Rattle.winnow_token.specs.NoneOf.{none_of_set};
 ghost use Rattle.winnow_token.specs.OneOf.{one_of_set};
-ghost use Rattle.winnow_token.specs.Rest.{RestLenRuns, RestRuns};
 ghost use Rattle.winnow_token.specs.Take.{take_count};
 ghost use Rattle.winnow_token.specs.TakeTill.{take_till_occurrences, take_till_set};
 ghost use Rattle.winnow_token.specs.TakeUntil.{take_until_literal, take_until_occurrences};
@@ -16,7 +16,6 @@ ghost use Rattle.winnow_token.specs.TakeWhile.{take_while_occurrences, take_whil
 
 pub mod impls;
 mod members;
-mod one;
 mod until;
 
 use crate::token::impls::{Literal, NoneOf, OneOf, Take, TakeTill, TakeUntil, TakeWhile};
@@ -132,9 +131,8 @@ where
 pub fn any<Input: StreamIsPartial, Error: ParserError<Input>>(
     input: &mut Input,
 ) -> Result<Input::Token, Error>
-    ensures ran { AnyRuns Input.seen_as Input.reading Error.form (Input.view input.old)
-        (answer_by Error.kind result) (Input.view input.new) }
-    ensures ends { IsEndOf Input.reading (Input.view input.new) (Input.view input.old) }
+    ensures ran { Ran Input.reading (AnyDoes Input.seen_as Input.reading) Error.form (tt {0})
+        (Input.view input.old) (answer_by Error.kind result) (tt {0}) (Input.view input.new) }
 {
     match input.next_token() {
         Some(token) => Ok(token),
@@ -267,9 +265,8 @@ where
 pub fn rest<Input: Stream, Error: ParserError<Input>>(
     input: &mut Input,
 ) -> Result<Input::Slice, Error>
-    ensures ran { RestRuns Input.reading (Input.view input.old) (answer_by Error.kind result)
-        (Input.view input.new) }
-    ensures ends { IsEndOf Input.reading (Input.view input.new) (Input.view input.old) }
+    ensures ran { Ran Input.reading (RestDoes Input.reading) Error.form (tt {0})
+        (Input.view input.old) (answer_by Error.kind result) (tt {0}) (Input.view input.new) }
 {
     Ok(input.finish())
 }
@@ -284,9 +281,8 @@ pub fn rest<Input: Stream, Error: ParserError<Input>>(
 /// ```
 #[inline(always)]
 pub fn rest_len<Input: Stream, Error: ParserError<Input>>(input: &mut Input) -> Result<usize, Error>
-    ensures ran { RestLenRuns Input.reading (Input.view input.old) (answer_by Error.kind result)
-        (Input.view input.new) }
-    ensures ends { IsEndOf Input.reading (Input.view input.new) (Input.view input.old) }
+    ensures ran { Ran Input.reading (RestLenDoes Input.reading) Error.form (tt {0})
+        (Input.view input.old) (answer_by Error.kind result) (tt {0}) (Input.view input.new) }
 {
     Ok(input.eof_offset())
 }

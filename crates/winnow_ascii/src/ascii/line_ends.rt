@@ -1,12 +1,12 @@
 //! Parsers of line endings, and of the text before one.
 ghost use Rattle.std.specs.Prelude.{MatchResult, ⊤};
 ghost use Rattle.parser_definitions.specs.Does.{Ran};
-ghost use Rattle.parser_definitions.specs.LineEnding.{NewlineDoes, TabDoes};
+ghost use Rattle.parser_definitions.specs.LineEnding.{CrlfDoes, LineEndingDoes, NewlineDoes};
+ghost use Rattle.parser_definitions.specs.LineEnding.{TabDoes};
+ghost use Rattle.parser_definitions.specs.TillLineEnding.{TillLineEndingDoes};
 ghost use Rattle.stream_errors.specs.Form.{answer_by};
 ghost use Rattle.streams.specs.Input.{IsEndOf};
-ghost use Rattle.winnow_ascii.specs.Crlf.{CrlfRuns};
-ghost use Rattle.winnow_ascii.specs.LineEnding.{LineEndingRuns};
-ghost use Rattle.winnow_ascii.specs.TillLineEnding.{LacksLineEnd, LineRuns, TillLineEndingRuns};
+ghost use Rattle.winnow_ascii.specs.TillLineEnding.{LacksLineEnd, TakesLine};
 
 use stream_errors::parser_error::ParserError;
 use stream_searches::compare::{Compare, CompareResult};
@@ -35,9 +35,8 @@ pub fn crlf<Input, Error>(input: &mut Input) -> Result<Input::Slice, Error>
 where
     Input: StreamIsPartial + Compare<&'static str>,
     Error: ParserError<Input>,
-    ensures ran { CrlfRuns Input.spells Input.reading Error.form (Input.view input.old)
-        (answer_by Error.kind result) (Input.view input.new) }
-    ensures ends { IsEndOf Input.reading (Input.view input.new) (Input.view input.old) }
+    ensures ran { Ran {S = ⊤} Input.reading (CrlfDoes Input.reading Input.spells) Error.form tt
+        (Input.view input.old) (answer_by Error.kind result) tt (Input.view input.new) }
 {
     take_literal(input, "\r\n")
 }
@@ -111,9 +110,8 @@ pub fn line_ending<Input, Error>(input: &mut Input) -> Result<Input::Slice, Erro
 where
     Input: StreamIsPartial + Compare<&'static str>,
     Error: ParserError<Input>,
-    ensures ran { LineEndingRuns Input.spells Input.reading Error.form (Input.view input.old)
-        (answer_by Error.kind result) (Input.view input.new) }
-    ensures ends { IsEndOf Input.reading (Input.view input.new) (Input.view input.old) }
+    ensures ran { Ran {S = ⊤} Input.reading (LineEndingDoes Input.reading Input.spells) Error.form
+        tt (Input.view input.old) (answer_by Error.kind result) tt (Input.view input.new) }
 {
     match take_literal::<_, Input, Error>(input, "\n") {
         Ok(slice) => Ok(slice),
@@ -157,9 +155,9 @@ pub fn till_line_ending<Input, Error>(input: &mut Input) -> Result<Input::Slice,
 where
     Input: StreamIsPartial + Compare<&'static str> + FindSlice<(char, char)>,
     Error: ParserError<Input>,
-    ensures ran { TillLineEndingRuns Input.spells Input.sought Input.reading Error.form
-        (Input.view input.old) (answer_by Error.kind result) (Input.view input.new) }
-    ensures ends { IsEndOf Input.reading (Input.view input.new) (Input.view input.old) }
+    ensures ran { Ran {S = ⊤} Input.reading
+        (TillLineEndingDoes Input.reading Input.spells Input.sought) Error.form tt
+        (Input.view input.old) (answer_by Error.kind result) tt (Input.view input.new) }
 {
     let line = till_return_or_feed(input)?;
     match input.compare("\r") {
@@ -179,7 +177,7 @@ fn till_return_or_feed<I: StreamIsPartial + FindSlice<(char, char)>, E: ParserEr
     input: &mut I,
 ) -> Result<I::Slice, E>
     ensures ran { MatchResult result
-        (λ slice. LineRuns I.sought I.reading E.form (I.view input.old) slice (I.view input.new))
+        (λ slice. TakesLine I.sought I.reading E.form (I.view input.old) slice (I.view input.new))
         (λ error. LacksLineEnd I.sought E.form (I.view input.old) (E.kind error)
         (I.view input.new)) }
     ensures ends { IsEndOf I.reading (I.view input.new) (I.view input.old) }

@@ -1,6 +1,5 @@
 -- Laws of literals.
-use Rattle.std.specs.Prelude.{List, ◌≡◌, ℕ}
-use Rattle.std.specs.Borrow.{Bor}
+use Rattle.std.specs.Prelude.{List}
 use Rattle.std.proofs.Common.{inl, inr}
 use Rattle.streams.specs.Input.{Input, IsEndOf, takes_end}
 use Rattle.streams.specs.Reading.{Reading}
@@ -17,10 +16,3 @@ literal_ends reading form spelled output i answer j (inr (inl (short, is_cut, e,
     same_ends reading i j same
 literal_ends reading form spelled output i answer j (inr (inr (other, whole, e, same))) =
     same_ends reading i j same
-
--- a text with these bytes
-abbrev pub TextRuns : {T L : Type 0} → Reading T L → (Bor (List ℕ) → List T → Type 0) → List ℕ
-    → ErrorForm → Input T → Answer L → Input T → Type 0
-TextRuns reading spells bytes form i answer j =
-    (text : Bor (List ℕ)) × (text.now ≡ bytes)
-    × LiteralRuns reading form (spells text) (λ slice. slice) i answer j

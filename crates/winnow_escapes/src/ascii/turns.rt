@@ -1,9 +1,11 @@
 //! Turns of literal text and of escapes, into an accumulator.
 ghost use Rattle.parser_definitions.specs.Does.{Ran};
-ghost use Rattle.std.specs.Prelude.{◌≡◌, [], MatchResult, None};
-ghost use Rattle.stream_errors.specs.Form.{answer_by, assert_kind, incomplete_kind, plain};
-ghost use Rattle.streams.specs.Input.{IsEndOf};
-ghost use Rattle.winnow_escapes.specs.Escaped.{EscapesRun, TriedRuns, turns_kept};
+ghost use Rattle.parser_definitions.specs.Escaped.{EscapeTurn, TextTurn, either_kept};
+ghost use Rattle.parser_definitions.specs.Folding.{gathering};
+ghost use Rattle.parser_definitions.specs.Loop.{Loop};
+ghost use Rattle.std.specs.Prelude.{◌≡◌, [], MatchResult};
+ghost use Rattle.stream_errors.specs.Form.{answer_by};
+ghost use Rattle.winnow_escapes.specs.Escaped.{side, tried_side};
 
 use std::alloc::AllocError;
 use stream_errors::control::ControlError;
@@ -38,12 +40,10 @@ pub(crate) fn try_turn<
     requires control { K.can_parse control.old }
     requires escape { X.can_parse escape.old }
     ensures again { N.can_parse normal.new × K.can_parse control.new × X.can_parse escape.new }
-    ensures ran { TriedRuns (Ran I.reading N.does E.form) (Ran I.reading K.does plain)
-        (Ran I.reading X.does E.form)
+    ensures ran { Ran I.reading (EscapeTurn N.does K.does X.does) E.form
         (N.state normal.old, K.state control.old, X.state escape.old) (I.view input.old)
-        (answer_by E.kind result)
+        (tried_side (answer_by E.kind result))
         (N.state normal.new, K.state control.new, X.state escape.new) (I.view input.new) }
-    ensures ends { IsEndOf I.reading (I.view input.new) (I.view input.old) }
 {
     let start = input.checkpoint();
     match normal.parse_next(input) {
@@ -72,10 +72,10 @@ fn keep<O, P, C: Accumulate<O, A> + Accumulate<P, A>, A>(
     turn: Turn<O, P>,
 ) -> Result<(), AllocError>
     ensures { MatchResult result
-        (λ _. (turns_kept ⟦<C as Accumulate<O, A>>⟧.accumulator
-        ⟦<C as Accumulate<P, A>>⟧.accumulator).takes all.old turn all.new)
-        (λ _. (turns_kept ⟦<C as Accumulate<O, A>>⟧.accumulator
-        ⟦<C as Accumulate<P, A>>⟧.accumulator).grows all.old turn) }
+        (λ _. (either_kept ⟦<C as Accumulate<O, A>>⟧.accumulator
+        ⟦<C as Accumulate<P, A>>⟧.accumulator).takes all.old (side turn) all.new)
+        (λ _. (either_kept ⟦<C as Accumulate<O, A>>⟧.accumulator
+        ⟦<C as Accumulate<P, A>>⟧.accumulator).grows all.old (side turn)) }
 {
     match turn {
         Turn::Normal(output) => <C as Accumulate<O, A>>::accumulate(all, output),
@@ -100,14 +100,12 @@ pub(crate) fn read_turns<
     requires control { K.can_parse control.old }
     requires escape { X.can_parse escape.old }
     ensures again { N.can_parse normal.new × K.can_parse control.new × X.can_parse escape.new }
-    ensures ran { EscapesRun (Ran I.reading N.does E.form) (Ran I.reading K.does plain)
-        (Ran I.reading X.does E.form)
-        (turns_kept ⟦<C as Accumulate<O, A>>⟧.accumulator ⟦<C as Accumulate<P, A>>⟧.accumulator)
-        (assert_kind E.form) (incomplete_kind E.form None) before
+    ensures ran { Ran I.reading (Loop (TextTurn (gathering (either_kept
+        ⟦<C as Accumulate<O, A>>⟧.accumulator ⟦<C as Accumulate<P, A>>⟧.accumulator))
+        (EscapeTurn N.does K.does X.does)) before) E.form
         (N.state normal.old, K.state control.old, X.state escape.old) (I.view input.old)
         (answer_by E.kind result)
         (N.state normal.new, K.state control.new, X.state escape.new) (I.view input.new) }
-    ensures ends { IsEndOf I.reading (I.view input.new) (I.view input.old) }
 {
     let mut all = before;
     'turns: loop {

@@ -8,12 +8,13 @@ ghost use Rattle.parser_definitions.specs.OneOf.{OneOfDoes, one_of_law};
 ghost use Rattle.parser_definitions.specs.Projects.Tokens.{one_of_projects};
 ghost use Rattle.parser_definitions.specs.Shown.{SeenSame};
 
-use crate::token::one::take_member;
 use std::marker::PhantomData;
 use stream_errors::parser_error::ParserError;
 use stream_sets::sets::ContainsToken;
+use streams::needed::Needed;
 use streams::stream::StreamIsPartial;
 use winnow_core::parser::Parser;
+use winnow_core::short::short;
 
 /// The parser that [`one_of`](crate::token::one_of) makes.
 ///
@@ -64,6 +65,17 @@ where
 
     #[inline(always)]
     fn parse_next(&mut self, input: &mut I) -> Result<I::Token, E> {
-        take_member(input, &self.set)
+        let start = input.checkpoint();
+        match input.next_token() {
+            Some(token) => {
+                if self.set.contains_token(token) {
+                    Ok(token)
+                } else {
+                    input.reset(&start);
+                    Err(E::from_input(input))
+                }
+            }
+            None => Err(short(input, Needed::new(1))),
+        }
     }
 }

@@ -1,15 +1,8 @@
 use Rattle.std.proofs.Common.{false, Some}
 use Rattle.parser_definitions.specs.Resume.{resumes}
 use Rattle.parser_definitions.specs.Then.Steps.{takes, with_first}
-use Rattle.winnow_recovery.proofs.RecoveryLemmas.{lost_ran, resumed_ran, stopped_ran}
+use Rattle.winnow_recovery.proofs.RecoveryLemmas.{resumed_ran, stopped_ran}
 use Rattle.winnow_recovery.proofs.combinator.impls.resume_after.resume.Goals as goal
-
-pub returns-then-not-can_recover-clause-ran : goal.returns-then-not-can_recover-clause-ran
-returns-then-not-can_recover-clause-ran g c =
-    lost_ran g.I.Stream.reading false g.E.FromRecoverableError.recoverable_grows
-    (λ o. takes with_first (Some o)) resumes g.P.Parser.does g.R.Parser.does g.E.HasKind.form
-    (g.P.Parser.state c.args.parser.now, g.R.Parser.state c.args.recover.now) _ _ _ _
-    c.in-Err.ensures.ran c.if-not-can_recover.ensures
 
 pub returns-in-Ok-recover_from-clause-ran : goal.returns-in-Ok-recover_from-clause-ran
 returns-in-Ok-recover_from-clause-ran g c =
