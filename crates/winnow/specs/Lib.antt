@@ -162,7 +162,7 @@ pub use Rattle.parser_definitions.specs.Places as PlacesDefinition
 pub use Rattle.parser_definitions.specs.Projects
 pub use Rattle.parser_definitions.specs.Recover as RecoverDefinition
 pub use Rattle.parser_definitions.specs.Repeat as RepeatDefinition
-pub use Rattle.parser_definitions.specs.RepeatTill as RepeatTillDefinition
+pub use Rattle.parser_definitions.specs.RepeatTill
 pub use Rattle.parser_definitions.specs.Rest
 pub use Rattle.parser_definitions.specs.Resume
 pub use Rattle.parser_definitions.specs.Retry
@@ -181,7 +181,7 @@ pub use Rattle.parser_definitions.specs.Terms
 pub use Rattle.parser_definitions.specs.Then
 pub use Rattle.parser_definitions.specs.Threes
 pub use Rattle.parser_definitions.specs.TillLineEnding as TillLineEndingDefinition
-pub use Rattle.parser_definitions.specs.TryMap as TryMapDefinition
+pub use Rattle.parser_definitions.specs.TryMap
 pub use Rattle.parser_definitions.specs.Tuples
 pub use Rattle.parser_definitions.specs.Unreadable
 pub use Rattle.parser_definitions.specs.Verify
@@ -208,7 +208,6 @@ pub use Rattle.winnow_core.specs.Short
 pub use Rattle.winnow_core.specs.Span
 pub use Rattle.winnow_core.specs.States
 pub use Rattle.winnow_core.specs.Tells
-pub use Rattle.winnow_core.specs.TryMap
 pub use Rattle.winnow_core.specs.Value
 -- The parsers of tokens.
 pub use Rattle.winnow_token.specs.Before
@@ -242,13 +241,13 @@ pub use Rattle.winnow_comb.specs.Laws
 pub use Rattle.winnow_comb.specs.Terminated
 -- Repetition of a parser: into an accumulator or a value, until another parser succeeds, as an
 -- iterator, or into a buffer.
+pub use Rattle.winnow_repeat.specs.Called
 pub use Rattle.winnow_repeat.specs.Chain
 pub use Rattle.winnow_repeat.specs.Fill
 pub use Rattle.winnow_repeat.specs.Fold
 pub use Rattle.winnow_repeat.specs.Iterator
 pub use Rattle.winnow_repeat.specs.Repeat
 pub use Rattle.winnow_repeat.specs.RepeatLaws
-pub use Rattle.winnow_repeat.specs.RepeatTill
 pub use Rattle.winnow_repeat.specs.TryFold
 pub use Rattle.winnow_repeat.specs.VerifyFold
 -- Repetition into a slice of the caller, without allocating.

@@ -26,5 +26,4 @@ pub mod Span
 pub mod States
 pub mod Take
 pub mod Tells
-pub mod TryMap
 pub mod Value

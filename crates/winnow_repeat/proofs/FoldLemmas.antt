@@ -1,156 +1,86 @@
--- Invariants of the loop that folds items into a value.
-use Rattle.std.specs.Prelude.{◌≡◌, ◌<◌, ◌≤◌, List, [], ◌∷◌, ◌++◌, length, Some, Ok, Err}
-use Rattle.std.specs.List.{FoldsTo}
-use Rattle.std.proofs.Common.{refl, ap, inl, inr}
-use Rattle.streams.specs.Input.{Input, back_at}
-use Rattle.streams.specs.Kind.{Kind, backtrack}
-use Rattle.stream_errors.specs.Form.{Answer}
-use Rattle.stream_sets.specs.Accumulator.{nothing_kept}
-use Rattle.stream_sets.specs.Range.{Bounds, IsBelow}
-use Rattle.winnow_core.specs.Runs.{Runs}
-use Rattle.stream_sets.specs.Accumulator.Holds.{Accumulates}
-use Rattle.winnow_repeat.specs.Chain.{Chain}
-use Rattle.winnow_repeat.specs.Fold.{FoldItemsRun, FoldedRuns}
-use Rattle.winnow_repeat.proofs.RepeatLemmas.{chain_more}
+-- Items that are folded into a value, in the state of a fold.
+use Rattle.std.specs.Prelude.{◌≡◌, ◌⊎◌, ℕ, Option}
+use Rattle.std.proofs.Common.{refl, subst, ap, inl, inr}
+use Rattle.streams.specs.Input.{Input}
+use Rattle.streams.specs.Kind.{Kind, backtrack, memory}
+use Rattle.streams.specs.Reading.{Reading}
+use Rattle.stream_errors.specs.Form.{Answer, ErrorForm}
+use Rattle.stream_sets.specs.Range.{Bounds, IsWithin, bounds_of, from_to}
+use Rattle.stream_sets.specs.declared.range.Range.{Range}
+use Rattle.parser_definitions.specs.Closures.{by_closures, folding_in}
+use Rattle.parser_definitions.specs.Consumes.{Item}
+use Rattle.parser_definitions.specs.Does.{Ran}
+use Rattle.parser_definitions.specs.Fold.{FoldManyDo, closures, with_closures}
+use Rattle.parser_definitions.specs.Items.{Items}
+use Rattle.parser_definitions.specs.Outcome.{Does}
+use Rattle.parser_definitions.specs.Repeat.{Many}
+use Rattle.parser_definitions.specs.Then.Steps.{first, second, with_first, with_second}
+use Rattle.winnow_repeat.specs.Called.Parts.{IsPart, items_ran}
+use Rattle.winnow_repeat.specs.Fold.{FoldsItems, without_start}
 
--- nothing is kept of all outputs
-all_taken : {O : Type 0} (outputs : List O) → FoldsTo (nothing_kept {O = O}).takes tt outputs tt
-all_taken [] = refl
-all_taken (o ∷ os) = (tt, tt, all_taken os)
+module _ {S G H T L R O : Type 0} (starts : G → R → G → Type 0) (takes : H → R → O → R → H → Type 0)
+    (rejects : H → R → O → H → Type 0) (grows : H → R → O → Type 0) (reading : Reading T L)
+    (does : Does S T O) (form : ErrorForm) (range : Range) (s : S) (k : G) (h : H) (i : Input T)
+    (a : Answer R) (t : S) (l : H) (j : Input T) where
+  part : IsPart first with_first (folding_in second with_second (without_start takes rejects grows))
+      first with_first (folding_in closures with_closures (by_closures starts takes rejects grows))
+      (λ (p : S × H). (p.0, (range, (k, p.1))))
+  part =
+      let whole : S × H → S × (Range × (G × H)) = λ p. (p.0, (range, (k, p.1))) in record {
+        got = λ p. refl;
+        kept = λ p s. refl;
+        starts = λ p u n c (m, none, is). absurd none;
+        takes = λ p u c d o (m, x, is). ((k, m), (x, refl), ap whole is);
+        rejects = λ p u c o (m, x, is). ((k, m), (x, refl), ap whole is);
+        start_grows = λ p n none. none;
+        grows = λ p c o x. x;
+      }
 
-pub nothing_takes : {O : Type 0} (outputs : List O)
-    → Accumulates (nothing_kept {O = O}).takes tt outputs tt
-nothing_takes outputs = record { taken = all_taken outputs }
+  -- in the state of the whole
+  pub fold_items_ran : (bounds : Bounds) (value : R)
+      → Ran reading (FoldsItems takes rejects grows does bounds value) form (s, h) i a (t, l) j
+      → Ran reading
+      (Items first with_first
+      (folding_in closures with_closures (by_closures starts takes rejects grows)) bounds
+      (Item does) value) form (s, (range, (k, h))) i a (t, (range, (k, l))) j
+  fold_items_ran bounds value ran =
+      items_ran part reading does form (s, h) i a (t, l) j bounds (Item does) value ran
 
--- one item more is folded in
-pub folded_more : {S Q R T O : Type 0} (folds : Q → R → O → Answer R → Q → Type 0)
-    (run : Runs S T O) (s : S × (Q × R)) (i : Input T) (outputs : List O) (u : S) (q : Q)
-    (value : R) (m : Input T) → Chain (FoldedRuns folds run) s i outputs (u, (q, value)) m
-    → (o : O) (t : S) (p : Q) (more : R) (j : Input T) → run u m (Ok o) t j
-    → length j.left.tokens < length m.left.tokens → folds q value o (Ok more) p
-    → Chain (FoldedRuns folds run) s i (outputs ++ (o ∷ [])) (t, (p, more)) j
-folded_more folds run s i outputs u q value m chain o t p more j ran fewer taken =
-    chain_more chain (inr (inr (o, ran, fewer, taken, refl))) fewer
-
-module _ {S Q R T O : Type 0} (folds : Q → R → O → Answer R → Q → Type 0) (run : Runs S T O)
-    (assert_kind : Kind) (bounds : Bounds) (s : S × (Q × R)) (i : Input T) (outputs : List O)
-    (u : S)
-    (q : Q) (value : R) (m : Input T) (chain : Chain (FoldedRuns folds run) s i outputs
-    (u, (q, value)) m) where
-  -- the greatest number is reached
-  pub fold_full : bounds.greatest ≡ Some (length outputs)
-      → FoldItemsRun folds run assert_kind bounds s i (Ok value) (u, q) m
-  fold_full full =
-      inl (
-        value,
-        (
-          outputs,
-          (u, (q, value)),
-          m,
-          chain,
-          inl (tt, full, nothing_takes outputs, refl, refl, refl),
+  -- after the value to begin with is made
+  pub fold_many_ran : (g : G) (greatest : Option ℕ) → greatest ≡ (bounds_of range).greatest
+      → IsWithin greatest range.start_inclusive → (value : R) → starts g value k
+      → Ran reading
+      (FoldsItems takes rejects grows does (from_to range.start_inclusive greatest) value) form
+      (s, h) i a (t, l) j
+      → Ran reading (FoldManyDo (by_closures starts takes rejects grows) does) form
+      (s, (range, (g, h))) i a (t, (range, (k, l))) j
+  fold_many_ran g greatest is within value made ran =
+      let P : Option ℕ → Type 0 =
+      λ n. Ran reading
+      (Many first with_first
+      (folding_in closures with_closures (by_closures starts takes rejects grows)) does
+      (from_to range.start_inclusive n)) form (s, (range, (g, h))) i a (t, (range, (k, l))) j in
+      let all = fold_items_ran (from_to range.start_inclusive greatest) value ran in
+      subst P is (
+        all.0,
+        all.1,
+        all.2,
+        inr (
+          within,
+          inl (value, (s, (range, (k, h))), ((k, h), (made, refl), refl), all.3),
         ),
-        refl,
       )
 
-  -- an item backtracks and there are enough
-  pub fold_ended : (t : S) (x j : Input T) → IsBelow bounds.greatest (length outputs)
-      → bounds.least ≤ length outputs → run u m (Err backtrack) t x → j ≡ back_at m.left x
-      → FoldItemsRun folds run assert_kind bounds s i (Ok value) (t, q) j
-  fold_ended t x j below enough ran back =
-      inl (
-        value,
-        (
-          outputs,
-          (u, (q, value)),
-          m,
-          chain,
-          inr (inl (
-            tt,
-            x,
-            below,
-            enough,
-            inl (backtrack, ran, refl, refl),
-            nothing_takes outputs,
-            refl,
-            back,
-          )),
-        ),
-        refl,
-      )
-
-  -- an item fails
-  pub fold_failed : (k : Kind) (t : S) (j : Input T) → IsBelow bounds.greatest (length outputs)
-      → (k ≡ backtrack → length outputs < bounds.least) → run u m (Err k) t j
-      → FoldItemsRun folds run assert_kind bounds s i (Err k) (t, q) j
-  fold_failed k t j below few ran =
-      inr (inl (
-        k,
-        value,
-        (
-          outputs,
-          (u, (q, value)),
-          m,
-          chain,
-          inr (inr (inl (
-            k,
-            tt,
-            below,
-            inl (k, ran, refl, refl),
-            few,
-            nothing_takes outputs,
-            refl,
-          ))),
-        ),
-        refl,
-      ))
-
-  -- an item consumes nothing
-  pub fold_stuck : (o : O) (k : Kind) (t : S) (j : Input T)
-      → IsBelow bounds.greatest (length outputs) → run u m (Ok o) t j
-      → j.left.tokens ≡ m.left.tokens → k ≡ assert_kind
-      → FoldItemsRun folds run assert_kind bounds s i (Err k) (t, q) j
-  fold_stuck o k t j below ran nothing e =
-      inr (inl (
-        k,
-        value,
-        (
-          outputs,
-          (u, (q, value)),
-          m,
-          chain,
-          inr (inr (inr (inl (
-            o,
-            tt,
-            below,
-            inr (inl (o, ran, nothing, refl, refl)),
-            nothing,
-            nothing_takes outputs,
-            ap Err e,
-          )))),
-        ),
-        refl,
-      ))
-
-  -- an item is rejected
-  pub fold_refused : (o : O) (k : Kind) (t : S) (p : Q) (x j : Input T)
-      → IsBelow bounds.greatest (length outputs) → run u m (Ok o) t x
-      → length x.left.tokens < length m.left.tokens → folds q value o (Err k) p
-      → j ≡ back_at m.left x
-      → FoldItemsRun folds run assert_kind bounds s i (Err k) (t, p) j
-  fold_refused o k t p x j below ran fewer refused back =
-      inr (inr (
-        outputs,
-        (u, (q, value)),
-        m,
-        o,
-        k,
-        x,
-        chain,
-        below,
-        ran,
-        fewer,
-        refused,
-        refl,
-        back,
-      ))
+-- an output that is rejected, in the state of the child and of what folds
+pub refused_in : {S H R O : Type 0} (takes : H → R → O → R → H → Type 0)
+    (rejects : H → R → O → H → Type 0) (grows : H → R → O → Type 0) (s : S) (h k : H) (r : R)
+    (o : O) (kind : Kind)
+    → ((kind ≡ backtrack) × rejects h r o k) ⊎ ((kind ≡ memory) × grows h r o)
+    → ((kind ≡ backtrack)
+    × (folding_in {Q = S × H} second with_second (without_start takes rejects grows)).rejects
+    (s, h) r o (s, k))
+    ⊎ ((kind ≡ memory)
+    × (folding_in {Q = S × H} second with_second (without_start takes rejects grows)).grows (s, h) r
+    o)
+refused_in takes rejects grows s h k r o kind (inl (is, x)) = inl (is, (k, x, refl))
+refused_in takes rejects grows s h k r o kind (inr (is, x)) = inr (is, x)

@@ -1,31 +1,22 @@
 -- Invariants of the loop that repeats items.
-use Rattle.std.proofs.Common.{◌≡◌, ◌≤◌, ◌<◌, ℕ, List, [], ◌∷◌, ◌++◌}
+use Rattle.std.proofs.Common.{◌≡◌, ◌≤◌, ℕ, List, [], ◌∷◌, ◌++◌}
 use Rattle.std.proofs.Common.{length, Option}
-use Rattle.std.proofs.Common.{Some, None, Ok, refl, subst, inr, arith}
+use Rattle.std.proofs.Common.{Some, None, Ok, refl, subst, inl, inr, arith}
 use Rattle.std.proofs.lemmas.Fn.{FoldsTo-push}
 use Rattle.streams.specs.Input.{Input}
 use Rattle.streams.specs.Reading.{Reading}
 use Rattle.winnow_core.specs.Runs.{Runs}
-use Rattle.stream_sets.specs.Range.{from_to}
-use Rattle.streams.specs.Kind.{Kind}
-use Rattle.stream_errors.specs.Form.{Answer}
-use Rattle.stream_sets.specs.Accumulator.Holds.{Accumulates}
-use Rattle.winnow_repeat.specs.Chain.{Chain, IsItem, IsSuccess, Successes}
+use Rattle.stream_sets.specs.Range.{bounds_of, from_to}
+use Rattle.stream_sets.specs.declared.range.Range.{Range}
+use Rattle.stream_errors.specs.Form.{Answer, ErrorForm}
+use Rattle.parser_definitions.specs.Does.{Ran}
+use Rattle.parser_definitions.specs.Folding.{gathering}
+use Rattle.parser_definitions.specs.Outcome.{Does}
+use Rattle.parser_definitions.specs.Repeat.{Many, OneOrMore, RepeatDoes}
+use Rattle.parser_definitions.specs.Then.Steps.{first, instead, same, with_first}
+use Rattle.winnow_repeat.specs.Called.Parts.{IsPart, gathers_part, many_ran, one_ran}
+use Rattle.winnow_repeat.specs.Chain.{IsSuccess, Successes}
 use Rattle.stream_sets.specs.Accumulator.{Accumulator}
-use Rattle.winnow_repeat.specs.Repeat.{RepeatManyRuns, RepeatRuns}
-
-pub chain_none : {S T O : Type 0} (run : Runs S T O) (s : S) (i : Input T) → Chain run s i [] s i
-chain_none run s i = record { runs = refl }
-
-pub chain_more : {S T O : Type 0} {run : Runs S T O} {s : S} {i : Input T} {outputs : List O}
-    {t : S} {j : Input T} {o : O} {u : S} {k : Input T} → Chain run s i outputs t j
-    → run t j (Ok o) u k → length k.left.tokens < length j.left.tokens
-    → Chain run s i (outputs ++ (o ∷ [])) u k
-chain_more {run = run} {s = s} {i = i} {outputs = outputs} {t = t} {j = j} {o = o} {u = u}
-    {k = k} c r l = record {
-      runs = FoldsTo-push (λ p o q. IsItem run p o q) (s, i) outputs
-          (t, j) o (u, k) c.runs (r, l);
-    }
 
 pub successes_none : {S T O : Type 0} (run : Runs S T O) (s : S) (i : Input T)
     → Successes run s i [] s i
@@ -41,27 +32,41 @@ successes_more {run = run} {s = s} {i = i} {outputs = outputs} {t = t} {j = j} {
           c.runs r;
     }
 
-pub accumulates_none : {C O : Type 0} (takes : C → O → C → Type 0) (c : C)
-    → Accumulates {C = C} {O = O} takes c [] c
-accumulates_none takes c = record { taken = refl }
+-- ---- calls of a repetition as often as a range says
 
-pub accumulates_more : {C O : Type 0} {takes : C → O → C → Type 0} {before : C}
-    {outputs : List O} {c d : C} {o : O} → Accumulates takes before outputs c → takes c o d
-    → Accumulates takes before (outputs ++ (o ∷ [])) d
-accumulates_more {takes = takes} {before = before} {outputs = outputs} {c = c} {d = d} {o = o} a
-    e = record { taken = FoldsTo-push takes before outputs c o d a.taken e }
+module _ {S T L O C : Type 0} (reading : Reading T L) (into : Accumulator C O) (does : Does S T O)
+    (form : ErrorForm) (range : Range) (s : S) (i : Input T) (a : Answer C) (t : S)
+    (j : Input T) where
+  -- the child's state, in the state of the whole
+  part : IsPart same instead (gathering into) first with_first (gathering into)
+      (λ (p : S). (p, range))
+  part = gathers_part into (λ p. refl) (λ p s. refl)
 
--- a repetition that is not of the form `1..`
-pub many_runs : {S T O C : Type 0} (run : Runs S T O) (into : Accumulator C O)
-    (assert_kind : Kind) (least : ℕ) (given greatest : Option ℕ) (s : S) (i : Input T)
-    (answer : Answer C) (t : S) (j : Input T) → given ≡ greatest
-    → ((least ≡ 1) × (given ≡ None) → ⊥)
-    → RepeatManyRuns run into assert_kind (from_to least given) s i answer t j
-    → RepeatRuns run into assert_kind (from_to least greatest) s i answer t j
-many_runs run into assert_kind least given greatest s i answer t j same other ran =
-    let P : Option ℕ → Type 0 =
-    λ g. RepeatRuns run into assert_kind (from_to least g) s i answer t j in
-    subst P same (inr (other, ran))
+  -- the form `1..`
+  pub repeat_one_ran : range.start_inclusive ≡ 1 → (bounds_of range).greatest ≡ None
+      → Ran reading (OneOrMore same instead (gathering into) does) form s i a t j
+      → Ran reading (RepeatDoes into does) form (s, range) i a (t, range) j
+  repeat_one_ran least none ran =
+      let whole = one_ran part reading does form s i a t j ran in
+      (whole.0, whole.1, whole.2, inl ((least, none), whole.3))
+
+  -- the other forms
+  pub repeat_many_ran : (greatest : Option ℕ) → greatest ≡ (bounds_of range).greatest
+      → ((range.start_inclusive ≡ 1) × (greatest ≡ None) → ⊥)
+      → Ran reading
+      (Many same instead (gathering into) does (from_to range.start_inclusive greatest)) form s i a
+      t j
+      → Ran reading (RepeatDoes into does) form (s, range) i a (t, range) j
+  repeat_many_ran greatest same_greatest other ran =
+      let P : Option ℕ → Type 0 = λ g. ((range.start_inclusive ≡ 1) × (g ≡ None) → ⊥)
+      × Ran reading
+      (Many first with_first (gathering into) does (from_to range.start_inclusive g)) form
+      (s, range) i a (t, range) j in
+      let (not, whole) = subst P same_greatest (
+        other,
+        many_ran part reading does form s i a t j (from_to range.start_inclusive greatest) ran,
+      ) in
+      (whole.0, whole.1, whole.2, inr (not, whole.3))
 
 pub some_is_none : {m : ℕ} → Some m ≡ None → ⊥
 some_is_none e = cc

@@ -1,43 +1,24 @@
--- Repetitions of a covered child are covered: what is the same in each of them.
-use Rattle.std.specs.List.{FoldsTo}
-use Rattle.std.specs.Prelude.{◌≡◌, ◌⊎◌, ◌<◌, ◌≤◌, ◌+◌, ℕ, List, [], ◌∷◌, length, Option, Some}
+-- Items of a covered child, and last turns of their repetition.
+use Rattle.std.specs.Prelude.{◌≡◌, ◌<◌, ◌≤◌, ℕ, length, Option, Some}
 use Rattle.std.specs.Prelude.{None, Ok, Err}
-use Rattle.std.proofs.Common.{refl, sym, subst, ap, ◌∙◌, inl, inr, arith}
+use Rattle.std.proofs.Common.{refl, ap, ◌∙◌, inl, inr, arith}
 use Rattle.streams.specs.Input.{Input}
 use Rattle.streams.specs.Kind.{Kind, backtrack, cut, incomplete, memory}
 use Rattle.stream_errors.specs.Form.{Answer, ErrorForm, assert_kind, modal, plain}
 use Rattle.stream_sets.specs.Range.{Bounds, IsBelow}
 use Rattle.winnow_core.specs.Covers.{At, Covers, failed, gave}
 use Rattle.winnow_core.specs.Runs.{Runs}
-use Rattle.winnow_repeat.specs.Repeat as lib
-use Rattle.parser_definitions.specs.Bounded.{capacity_of}
 use Rattle.parser_definitions.specs.Consumes.{Item, by_consuming}
 use Rattle.parser_definitions.specs.Folding.{Folding}
 use Rattle.parser_definitions.specs.Items.{Items, ItemsTurn, items_next}
 use Rattle.parser_definitions.specs.Left.{End, Left, back, left_of}
-use Rattle.parser_definitions.specs.Loop.{LoopDoes, Turn, again, last, last_comes, last_turn}
+use Rattle.parser_definitions.specs.Loop.{Turn, last, last_comes, last_turn}
 use Rattle.parser_definitions.specs.Loop.{returns}
-use Rattle.parser_definitions.specs.Outcome.{Does, Outcome, Setting, backs, misused, outcome_of}
+use Rattle.parser_definitions.specs.Outcome.{Does, Setting, backs, misused, outcome_of}
 use Rattle.parser_definitions.specs.Outcome.{took, wants}
 use Rattle.parser_definitions.specs.Then.{ComesOf, Then}
 use Rattle.parser_definitions.specs.Then.Steps.{instead, same, takes}
 pub mod Fill
-pub mod Fold
-pub mod Repeat
-pub mod RepeatTill
-
--- a count below the last one is below the greatest
-pub below : (greatest : Option ℕ) (n most : ℕ) → n < most
-    → (greatest ≡ Some most) ⊎ IsBelow greatest most → IsBelow greatest n
-below None n most less is = tt
-below (Some g) n most less (inl e) =
-    let P : Option ℕ → Type 0 = λ z. IsBelow z n in subst P (sym e) less
-below (Some g) n most less (inr is) = omega (arith, less, is)
-
-pub same_capacity : (least : ℕ) (greatest : Option ℕ)
-    → lib.capacity_of least greatest ≡ capacity_of least greatest
-same_capacity least None = refl
-same_capacity least (Some most) = refl
 
 pub misuse : {L O : Type 0} (at : Setting) (l : L)
     → outcome_of {O = O} (Err (assert_kind at.form)) l ≡ misused at l
@@ -167,36 +148,3 @@ module _ {S Q T C O : Type 0} (get : Q → S) (put : Q → S → Q) (f : Folding
             → a ≡ Err memory → LastTurn x at q w (outcome_of a l)
         ends_wanting grows a l e =
             (wants, inr (less, (took (Some o) (v, end), d, inr (inr (grows, refl)))), gave l e)
-
-  limit : {at : Setting} {q : Q} {w : Left T} {y : Outcome (End Q T) C} (x : C × ℕ)
-      → LastTurn x at q w y → (bounds.greatest ≡ Some x.1) ⊎ IsBelow bounds.greatest x.1
-  limit x (z, inl (full, e), c) = inl full
-  limit x (z, inr (less, d), c) = inr less
-
-  turns : {at : Setting} {y : Outcome (End Q T) C} (outputs : List O) (n most : ℕ)
-      → most ≡ n + length outputs → (a b : C × Q × Left T) → FoldsTo (AddsItem at) a outputs b
-      → LastTurn (b.0, most) at b.1 b.2 y → LoopDoes Turns at (a.0, n) a.1 a.2 y
-  turns {at} {y} [] n most is a b went l =
-      let P : C × Q × Left T → Type 0 = λ x. LoopDoes Turns at (x.0, n) x.1 x.2 y in
-      subst P (sym went)
-      (last (subst (λ m. LastTurn (b.0, m) at b.1 b.2 y) (is ∙ omega arith) l))
-  turns {at} {y} (o ∷ os) n most is a b (c, (v, d, takes), went) l =
-      again (inr (
-        below bounds.greatest n most (omega (arith, is)) (limit (b.0, most) l),
-        (took (Some o) (v, c.2), d, inl (c.0, c.1, takes, refl)),
-      )) (turns os (n + 1) most (is ∙ omega arith) c b went l)
-
-  -- items whose outputs are added, and the last turn
-  pub items_do : {at : Setting} {y : Outcome (End Q T) C} (outputs : List O)
-      (a b : C × Q × Left T) → FoldsTo (AddsItem at) a outputs b
-      → LastTurn (b.0, length outputs) at b.1 b.2 y
-      → Items get put f bounds item a.0 at a.1 a.2 y
-  items_do outputs a b went l = turns outputs 0 (length outputs) (omega arith) a b went l
-
--- bounds that contain no number
-pub misused_bounds : {Q T O : Type 0} (at : Setting) {q t : Q} {i j : Input T} {a : Answer O}
-    → a ≡ Err (assert_kind at.form) → t ≡ q → j ≡ i
-    → ◌≡◌ {A = Outcome (End Q T) O} (outcome_of a (t, left_of j)) (misused at (q, left_of i))
-misused_bounds {Q} {T} {O} at {q} {t} {i} {j} {a} e kept is =
-    gave (t, left_of j) e ∙ misuse at (t, left_of j)
-    ∙ ap (λ l. misused at l) (same_end kept is)

@@ -112,7 +112,7 @@ module _ {S W H T O D : Type 0} (A : Type 0) (step : H → O → D → O → O �
       (pair_ended element separator at (q.1, q.0) w (v, m) did, refl) in
       (m, ended, value, same, reset)
 
-  -- ---- two turns from one place
+  -- ---- two turns from one position
 
   module _ (start : S) (begin : W) (decides : Decides element at start)
       (decides_between : Decides separator at begin) where
@@ -174,7 +174,7 @@ module _ {S W H T O D : Type 0} (A : Type 0) (step : H → O → D → O → O �
         let ends = decides p.0 is.0 a (backs (t.0, m)) (backs (u.0, n)) f i in
         (ap (λ z. z.0) ends, states, ap (λ z. z.1) ends)
 
-    -- Both go on, or both end.
+    -- Both loops continue, or both end.
     loops_agree : (x : O × ℕ) (y : Vec (D × O) A × ℕ) (q t u : S × W × H) (h : H) (w j k : Left T)
         (left : O) (all : Vec (D × O) A) → At (q.0, q.1)
         → LoopDoes (Turns pair_of with_pair Lefts 0 (ToLeft element separator at) at) at x q w

@@ -4,5 +4,4 @@ mod FoldTurns
 mod LinkLemmas
 mod SeparatedLaw
 mod SeparatedLemmas
-mod TurnLemmas
 mod TurnsInversion

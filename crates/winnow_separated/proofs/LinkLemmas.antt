@@ -1,7 +1,7 @@
 -- Calls of links, by the calls of separators and elements.
 use Rattle.std.proofs.Common.{◌≡◌, ◌<◌, length, Option, Some, None, Ok, Err}
 use Rattle.std.proofs.Common.{refl, subst, ap, ◌∙◌, inl, inr, arith}
-use Rattle.streams.specs.Input.{Input, IsEndOf, is_end_of_trans}
+use Rattle.streams.specs.Input.{Input, is_end_of_trans}
 use Rattle.streams.specs.Kind.{Kind, backtrack, cut, incomplete, memory}
 use Rattle.streams.specs.Reading.{Reading}
 use Rattle.stream_errors.specs.Form.{Answer, ErrorForm}
@@ -10,19 +10,10 @@ use Rattle.parser_definitions.specs.Left.{End, Left, left_of}
 use Rattle.parser_definitions.specs.Outcome.{Does, Outcome, Setting, asks, backs, cuts, outcome_of}
 use Rattle.parser_definitions.specs.Outcome.{setting_of, took, wants}
 use Rattle.parser_definitions.specs.Then.Steps.{takes, with_first, with_second}
-use Rattle.winnow_core.specs.Covers.{at_setting, failed}
+use Rattle.winnow_core.specs.Covers.{failed}
+use Rattle.winnow_repeat.specs.Called.{there}
 use Rattle.winnow_separated.specs.Link.{LinkDoes}
 use Rattle.winnow_separated.specs.Separated.{OnlyElements}
-
--- what a call does where another ended, in the setting of the first
-pub there : {S T L O : Type 0} (reading : Reading T L) (does : Does S T O) (form : ErrorForm)
-    (i m : Input T) (s : S) (a : Answer O) (t : S) (j : Input T) → IsEndOf reading m i
-    → Ran reading does form s m a t j
-    → does (setting_of form i) s (left_of m) (outcome_of a (t, left_of j))
-there {T = T} reading does form i m s a t j ends ran =
-    subst (λ z. does z s (left_of m) (outcome_of a (t, left_of j)))
-    (at_setting {T = T} {at = setting_of form i} {i = m}
-    (record { more = ends.cut; possible = ends.ends.possible })) ran.3
 
 module _ {S W T L O D : Type 0} (reading : Reading T L) (element : Does S T O)
     (separator : Does W T D) (form : ErrorForm) (s t : S × W) (i j : Input T) where

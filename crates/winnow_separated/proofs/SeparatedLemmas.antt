@@ -15,7 +15,7 @@ use Rattle.parser_definitions.specs.Outcome.{Does, took}
 use Rattle.parser_definitions.specs.Separated.{Elements, links_within, one_less}
 use Rattle.parser_definitions.specs.Threes.{one_of, pair_of, with_one, with_pair}
 use Rattle.winnow_separated.specs.Separated.{OnlyElements}
-use Rattle.winnow_separated.proofs.LinkLemmas.{there}
+use Rattle.winnow_repeat.specs.Called.{there}
 
 -- after the first element, one is missing less, and there is room for one less
 pub fewer_links : (links : ℕ → Option ℕ → Type 0) (least missing : ℕ) (greatest room : Option ℕ)

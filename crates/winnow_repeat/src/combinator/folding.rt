@@ -1,11 +1,12 @@
 //! How repetition folds its outputs into a value.
+ghost use Rattle.parser_definitions.specs.Closures.{by_closures};
 ghost use Rattle.parser_definitions.specs.Does.{Ran};
-ghost use Rattle.std.specs.Prelude.{MatchResult, Ok, Err};
-ghost use Rattle.stream_errors.specs.Form.{Answer, answer_by, assert_kind};
-ghost use Rattle.stream_sets.specs.Range.{IsWithin, bounds_of, from_to};
-ghost use Rattle.streams.specs.Input.{IsEndOf};
-ghost use Rattle.streams.specs.Kind.{Kind};
-ghost use Rattle.winnow_repeat.specs.Fold.{FoldItemsRun, FoldManyRuns};
+ghost use Rattle.parser_definitions.specs.Fold.{FoldManyDo};
+ghost use Rattle.std.specs.Prelude.{◌≡◌, ◌⊎◌, MatchResult};
+ghost use Rattle.stream_errors.specs.Form.{answer_by};
+ghost use Rattle.stream_sets.specs.Range.{from_to};
+ghost use Rattle.streams.specs.Kind.{Kind, backtrack, memory};
+ghost use Rattle.winnow_repeat.specs.Fold.{FoldsItems};
 
 use crate::combinator::items::is_descending;
 use stream_errors::has_kind::HasKind;
@@ -27,8 +28,14 @@ pub trait Folding<I: Stream, O, R, E: ParserError<I>> {
 
     ghost state: { Self → State };
 
-    // How a value takes an output, from a state to a state: into a value, or with an error.
-    ghost folds: { State → R → O → Answer R → State → Type 0 };
+    // An output is folded into a value, from a state to a state.
+    ghost takes: { State → R → O → R → State → Type 0 };
+
+    // An output is rejected.
+    ghost rejects: { State → R → O → State → Type 0 };
+
+    // An allocation for the error may fail.
+    ghost grows: { State → R → O → Type 0 };
 
     // The kinds of errors for a reason.
     ghost refuses: { Self.Reason → Kind → Type 0 };
@@ -38,9 +45,10 @@ pub trait Folding<I: Stream, O, R, E: ParserError<I>> {
         requires { can_fold self.old }
         ensures again { can_fold self.new }
         ensures folded { MatchResult result
-            (λ more. folds (state self.old) value output (Ok more) (state self.new))
+            (λ more. takes (state self.old) value output more (state self.new))
             (λ refusal. (k : Kind) → refuses refusal k
-            → folds (state self.old) value output (Err k) (state self.new)) };
+            → ((k ≡ backtrack) × rejects (state self.old) value output (state self.new))
+            ⊎ ((k ≡ memory) × grows (state self.old) value output)) };
 
     /// Returns the error for a reason, at the position of `input`.
     fn error(refusal: Self::Reason, input: &I) -> E
@@ -62,46 +70,13 @@ pub(crate) fn fold_range<
     requires init { G.IsAlwaysCallable init.old }
     requires op { F.can_fold op.old }
     ensures again { P.can_parse parser.new × G.IsAlwaysCallable init.new × F.can_fold op.new }
-    ensures ran { FoldManyRuns G.step F.folds (Ran I.reading P.does E.form) (assert_kind E.form)
-        (bounds_of occurrences) (P.state parser.old, (init.old, F.state op.old))
-        (I.view input.old) (answer_by E.kind result)
-        (P.state parser.new, (init.new, F.state op.new)) (I.view input.new) }
-    ensures ends { IsEndOf I.reading (I.view input.new) (I.view input.old) }
+    ensures ran { Ran I.reading (FoldManyDo (by_closures G.step F.takes F.rejects F.grows) P.does)
+        E.form (P.state parser.old, (occurrences, (init.old, F.state op.old))) (I.view input.old)
+        (answer_by E.kind result)
+        (P.state parser.new, (occurrences, (init.new, F.state op.new))) (I.view input.new) }
 {
     let least = occurrences.start_inclusive;
     let greatest = occurrences.greatest();
-    fold_many(least, greatest, parser, init, op, input)
-}
-
-/// Creates a value and folds items into it: at least `least`, and at most `greatest` if there is a
-/// bound.
-#[inline(always)]
-fn fold_many<
-    P: Parser<I, O, E>,
-    G: FnMut() -> R,
-    F: Folding<I, O, R, E>,
-    I: Stream,
-    O: Drop,
-    R: Drop,
-    E: ParserError<I>,
->(
-    least: usize,
-    greatest: Option<usize>,
-    parser: &mut P,
-    init: &mut G,
-    op: &mut F,
-    input: &mut I,
-) -> Result<R, E>
-    requires parser { P.can_parse parser.old }
-    requires init { G.IsAlwaysCallable init.old }
-    requires op { F.can_fold op.old }
-    ensures again { P.can_parse parser.new × G.IsAlwaysCallable init.new × F.can_fold op.new }
-    ensures ran { FoldManyRuns G.step F.folds (Ran I.reading P.does E.form) (assert_kind E.form)
-        (from_to least greatest) (P.state parser.old, (init.old, F.state op.old))
-        (I.view input.old) (answer_by E.kind result)
-        (P.state parser.new, (init.new, F.state op.new)) (I.view input.new) }
-    ensures ends { IsEndOf I.reading (I.view input.new) (I.view input.old) }
-{
     if is_descending(least, greatest) {
         return Err(E::assert(input, "the greatest count is below the least"));
     }
@@ -128,12 +103,11 @@ pub fn fold_items<
 ) -> Result<R, E>
     requires parser { P.can_parse parser.old }
     requires op { F.can_fold op.old }
-    requires range { IsWithin room missing }
     ensures again { P.can_parse parser.new × F.can_fold op.new }
-    ensures ran { FoldItemsRun F.folds (Ran I.reading P.does E.form) (assert_kind E.form)
-        (from_to missing room) (P.state parser.old, (F.state op.old, value)) (I.view input.old)
-        (answer_by E.kind result) (P.state parser.new, F.state op.new) (I.view input.new) }
-    ensures ends { IsEndOf I.reading (I.view input.new) (I.view input.old) }
+    ensures ran { Ran I.reading (FoldsItems F.takes F.rejects F.grows P.does
+        (from_to missing room) value) E.form (P.state parser.old, F.state op.old)
+        (I.view input.old) (answer_by E.kind result) (P.state parser.new, F.state op.new)
+        (I.view input.new) }
 {
     let mut value = value;
     let mut missing = missing;

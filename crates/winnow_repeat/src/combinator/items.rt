@@ -1,10 +1,13 @@
 //! Items into an accumulator, as all repetitions read them.
+ghost use Rattle.parser_definitions.specs.Consumes.{Item};
 ghost use Rattle.parser_definitions.specs.Does.{Ran};
+ghost use Rattle.parser_definitions.specs.Folding.{gathering};
+ghost use Rattle.parser_definitions.specs.Items.{Items};
+ghost use Rattle.parser_definitions.specs.Repeat.{Many};
+ghost use Rattle.parser_definitions.specs.Then.Steps.{instead, same};
 ghost use Rattle.std.specs.Prelude.{◌<◌, ◌≡◌, MatchBool, Some, ℕ};
-ghost use Rattle.stream_errors.specs.Form.{answer_by, assert_kind};
+ghost use Rattle.stream_errors.specs.Form.{answer_by};
 ghost use Rattle.stream_sets.specs.Range.{IsWithin, from_to};
-ghost use Rattle.streams.specs.Input.{IsEndOf};
-ghost use Rattle.winnow_repeat.specs.Repeat.{ItemsRun, RepeatManyRuns};
 
 use std::alloc::Allocator;
 use stream_errors::parser_error::ParserError;
@@ -34,11 +37,9 @@ pub fn repeat_many<
 >(alloc: A, least: usize, greatest: Option<usize>, parser: &mut P, input: &mut I) -> Result<C, E>
     requires { P.can_parse parser.old }
     ensures again { P.can_parse parser.new }
-    ensures ran { RepeatManyRuns (Ran I.reading P.does E.form) C.accumulator (assert_kind E.form)
-        (from_to least greatest) (P.state parser.old) (I.view input.old)
-        (answer_by E.kind result)
-        (P.state parser.new) (I.view input.new) }
-    ensures ends { IsEndOf I.reading (I.view input.new) (I.view input.old) }
+    ensures ran { Ran I.reading (Many same instead (gathering C.accumulator) P.does
+        (from_to least greatest)) E.form (P.state parser.old) (I.view input.old)
+        (answer_by E.kind result) (P.state parser.new) (I.view input.new) }
 {
     if is_descending(least, greatest) {
         return Err(E::assert(input, "the greatest count is below the least"));
@@ -58,14 +59,11 @@ pub fn repeat_items<
     E: ParserError<I>,
     A: Allocator + Copy,
 >(all: C, missing: usize, room: Option<usize>, parser: &mut P, input: &mut I) -> Result<C, E>
-    requires parser { P.can_parse parser.old }
-    requires range { IsWithin room missing }
+    requires { P.can_parse parser.old }
     ensures again { P.can_parse parser.new }
-    ensures ran { ItemsRun (Ran I.reading P.does E.form) C.accumulator (assert_kind E.form)
-        (from_to missing room)
-        all (P.state parser.old) (I.view input.old) (answer_by E.kind result)
-        (P.state parser.new) (I.view input.new) }
-    ensures ends { IsEndOf I.reading (I.view input.new) (I.view input.old) }
+    ensures ran { Ran I.reading (Items same instead (gathering C.accumulator)
+        (from_to missing room) (Item P.does) all) E.form (P.state parser.old) (I.view input.old)
+        (answer_by E.kind result) (P.state parser.new) (I.view input.new) }
 {
     let mut all = all;
     let mut missing = missing;

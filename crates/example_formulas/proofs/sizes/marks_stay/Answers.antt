@@ -7,7 +7,7 @@ use Rattle.winnow.specs.LiteralDefinition.{LiteralDoes}
 use Rattle.winnow.specs.Outcome.{Does}
 use Rattle.winnow.specs.Premises.Decided.{StaysBy, choice_stays, did_stays, literal_stays}
 use Rattle.winnow.specs.Premises.Decided.{value_stays}
-use Rattle.winnow.specs.TryMapDefinition.{ValueDoes}
+use Rattle.winnow.specs.TryMap.{ValueDoes}
 use Rattle.example_formulas.proofs.sizes.marks_stay.Goals as goal
 
 -- a byte

@@ -1,16 +1,18 @@
 //! Repetition whose outputs a closure folds into a value.
 ghost use Rattle.parser_definitions.specs.Does.{Ran};
 ghost use Rattle.std.specs.Prelude.{◌≡◌, ⊤, ◌<◌, true};
-ghost use Rattle.streams.specs.Input.{IsEndOf};
 ghost use Rattle.streams.specs.Kind.{backtrack};
 ghost use Rattle.stream_sets.specs.Range.{IsWithin, bounds_of};
 ghost use Rattle.stream_sets.specs.declared.range.Range.{Range};
 ghost use Rattle.grammars.specs.Grammar.Folded.{FoldOf, Folded, StaysFolding, StaysMaking};
 ghost use Rattle.grammars.specs.Grammar.Unique.{repeated_take};
-ghost use Rattle.stream_errors.specs.Form.{answer_by, assert_kind, modal};
-ghost use Rattle.winnow_repeat.specs.Fold.{FoldOneRuns, FoldTakes, fold_closure};
-ghost use Rattle.parser_definitions.specs.Closures.{folding};
-ghost use Rattle.parser_definitions.specs.Fold.{FoldDoes, FoldsAlike, MakesOne, fold_law};
+ghost use Rattle.stream_errors.specs.Form.{answer_by, modal};
+ghost use Rattle.winnow_repeat.specs.Fold.{fold_closure};
+ghost use Rattle.parser_definitions.specs.Closures.{folding, folding_in};
+ghost use Rattle.parser_definitions.specs.Fold.{FoldDoes, FoldsAlike, MakesOne, closures, fold_law};
+ghost use Rattle.parser_definitions.specs.Fold.{with_closures};
+ghost use Rattle.parser_definitions.specs.Repeat.{OneOrMore};
+ghost use Rattle.parser_definitions.specs.Then.Steps.{first, with_first};
 ghost use Rattle.parser_definitions.specs.Folding.{Built};
 ghost use Rattle.parser_definitions.specs.Projects.Gathers.{fold_projects};
 
@@ -36,7 +38,11 @@ impl<H: FnMut(R, O) -> R, I: Stream, O, R, E: ParserError<I>> Folding<I, O, R, E
 
     ghost state = { λ s. s.closure };
 
-    ghost folds = { FoldTakes H.step };
+    ghost takes = { H.step };
+
+    ghost rejects = { λ h r o k. ⊥ };
+
+    ghost grows = { λ h r o. ⊥ };
 
     ghost refuses = { λ _ k. k ≡ backtrack };
 
@@ -170,11 +176,11 @@ fn fold_one<
     requires op { H.IsAlwaysCallable op.old.closure }
     ensures again { P.can_parse parser.new × G.IsAlwaysCallable init.new
         × H.IsAlwaysCallable op.new.closure }
-    ensures ran { FoldOneRuns G.step (FoldTakes H.step) (Ran I.reading P.does E.form)
-        (assert_kind E.form) (P.state parser.old, (init.old, op.old.closure)) (I.view input.old)
-        (answer_by E.kind result) (P.state parser.new, (init.new, op.new.closure))
+    ensures ran { (range : Range) → Ran I.reading (OneOrMore first with_first
+        (folding_in closures with_closures (folding G.step H.step)) P.does) E.form
+        (P.state parser.old, (range, (init.old, op.old.closure))) (I.view input.old)
+        (answer_by E.kind result) (P.state parser.new, (range, (init.new, op.new.closure)))
         (I.view input.new) }
-    ensures ends { IsEndOf I.reading (I.view input.new) (I.view input.old) }
 {
     let first = parser.parse_next(input)?;
     let value = init();

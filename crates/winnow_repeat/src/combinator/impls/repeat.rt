@@ -1,21 +1,20 @@
 //! Repetition.
 ghost use Rattle.parser_definitions.specs.Does.{Ran};
 ghost use Rattle.std.specs.Prelude.{◌≡◌, ◌<◌, ⊤, true};
-ghost use Rattle.streams.specs.Input.{IsEndOf};
 ghost use Rattle.stream_sets.specs.Range.{IsWithin, bounds_of};
 ghost use Rattle.stream_sets.specs.declared.range.Range.{Range};
 ghost use Rattle.grammars.specs.Grammar.{Repeated};
 ghost use Rattle.grammars.specs.Grammar.Unique.{repeated_take};
-ghost use Rattle.stream_errors.specs.Form.{answer_by, assert_kind, modal};
+ghost use Rattle.stream_errors.specs.Form.{answer_by, modal};
 ghost use Rattle.winnow_repeat.specs.Fold.{fold_closure};
-ghost use Rattle.winnow_repeat.specs.Repeat.{RepeatOneRuns, repeat_occurrences};
-ghost use Rattle.winnow_repeat.specs.Repeat.{repeat_parser};
+ghost use Rattle.winnow_repeat.specs.Repeat.{repeat_occurrences, repeat_parser};
 ghost use Rattle.winnow_repeat.specs.TryFold.{try_fold_closure};
 ghost use Rattle.winnow_repeat.specs.VerifyFold.{verify_fold_closure};
 ghost use Rattle.parser_definitions.specs.Folding.{Built, gathering};
 ghost use Rattle.parser_definitions.specs.Projects.{projects_as};
 ghost use Rattle.parser_definitions.specs.Projects.Gathers.{repeat_projects};
-ghost use Rattle.parser_definitions.specs.Repeat.{RepeatDoes, repeat_law};
+ghost use Rattle.parser_definitions.specs.Repeat.{OneOrMore, RepeatDoes, repeat_law};
+ghost use Rattle.parser_definitions.specs.Then.Steps.{instead, same};
 
 use crate::combinator::impls::{RepeatFold, RepeatTryFold, RepeatVerifyFold};
 use crate::combinator::items::{repeat_items, repeat_many};
@@ -191,10 +190,9 @@ fn repeat_one<
 >(alloc: A, parser: &mut P, input: &mut I) -> Result<C, E>
     requires { P.can_parse parser.old }
     ensures again { P.can_parse parser.new }
-    ensures ran { RepeatOneRuns (Ran I.reading P.does E.form) C.accumulator (assert_kind E.form)
+    ensures ran { Ran I.reading (OneOrMore same instead (gathering C.accumulator) P.does) E.form
         (P.state parser.old) (I.view input.old) (answer_by E.kind result) (P.state parser.new)
         (I.view input.new) }
-    ensures ends { IsEndOf I.reading (I.view input.new) (I.view input.old) }
 {
     let first = parser.parse_next(input)?;
     let mut all = match C::initial(alloc, None) {

@@ -1,17 +1,20 @@
 //! Repetition until a terminator.
 ghost use Rattle.parser_definitions.specs.Does.{Ran};
-ghost use Rattle.std.specs.Prelude.{◌<◌, ⊤, true};
-ghost use Rattle.streams.specs.Input.{IsEndOf};
-ghost use Rattle.stream_sets.specs.Range.{IsWithin, bounds_of};
+ghost use Rattle.std.specs.Prelude.{◌<◌, ⊤, Some, true};
+ghost use Rattle.stream_sets.specs.Range.{IsWithin, bounds_of, from_to};
 ghost use Rattle.stream_sets.specs.declared.range.Range.{Range};
 ghost use Rattle.grammars.specs.Grammar.Till.{Till, till_takes};
-ghost use Rattle.stream_errors.specs.Form.{answer_by, assert_kind, modal};
-ghost use Rattle.winnow_repeat.specs.RepeatTill.{LeastItemsRun, TurnsRun};
+ghost use Rattle.stream_errors.specs.Form.{answer_by, modal};
 ghost use Rattle.parser_definitions.specs.Equal.{AlikePairs};
 ghost use Rattle.parser_definitions.specs.Folding.{Built, gathering};
+ghost use Rattle.parser_definitions.specs.Items.{Items};
+ghost use Rattle.parser_definitions.specs.Loop.{Loop};
 ghost use Rattle.parser_definitions.specs.Projects.{projects_as};
 ghost use Rattle.parser_definitions.specs.Projects.Tills.{repeat_till_projects};
-ghost use Rattle.parser_definitions.specs.RepeatTill.{RepeatTillDoes, repeat_till_law};
+ghost use Rattle.parser_definitions.specs.RepeatTill.{Every, RepeatTillDoes, TillTurn};
+ghost use Rattle.parser_definitions.specs.RepeatTill.{repeat_till_law};
+ghost use Rattle.parser_definitions.specs.Then.Steps.{instead, same};
+ghost use Rattle.parser_definitions.specs.Threes.{one_of, two_of, with_one, with_two};
 
 use crate::combinator::items::is_descending;
 use std::alloc::Allocator;
@@ -116,10 +119,9 @@ fn least_items<
 >(empty: C, least: usize, parser: &mut P, input: &mut I) -> Result<C, E>
     requires { P.can_parse parser.old }
     ensures again { P.can_parse parser.new }
-    ensures ran { LeastItemsRun (Ran I.reading P.does E.form) C.accumulator least empty
-        (P.state parser.old) (I.view input.old) (answer_by E.kind result)
-        (P.state parser.new) (I.view input.new) }
-    ensures ends { IsEndOf I.reading (I.view input.new) (I.view input.old) }
+    ensures ran { Ran I.reading (Items same instead (gathering C.accumulator)
+        (from_to least (Some least)) (Every P.does) empty) E.form (P.state parser.old)
+        (I.view input.old) (answer_by E.kind result) (P.state parser.new) (I.view input.new) }
 {
     let mut all = empty;
     let mut missing = least;
@@ -154,11 +156,11 @@ fn turns<
     requires parser { P.can_parse parser.old }
     requires terminator { G.can_parse terminator.old }
     ensures again { P.can_parse parser.new × G.can_parse terminator.new }
-    ensures ran { TurnsRun (Ran I.reading P.does E.form) (Ran I.reading G.does E.form) C.accumulator
-        (assert_kind E.form) room before (P.state parser.old, G.state terminator.old)
-        (I.view input.old) (answer_by E.kind result)
-        (P.state parser.new, G.state terminator.new) (I.view input.new) }
-    ensures ends { IsEndOf I.reading (I.view input.new) (I.view input.old) }
+    ensures ran { (range : Range) → Ran I.reading (Loop (TillTurn one_of with_one two_of with_two
+        (gathering C.accumulator) P.does G.does room) (before, 0)) E.form
+        (P.state parser.old, G.state terminator.old, range) (I.view input.old)
+        (answer_by E.kind result) (P.state parser.new, G.state terminator.new, range)
+        (I.view input.new) }
 {
     let mut all = before;
     let mut room = room;

@@ -1,9 +1,9 @@
 //! Repetition whose outputs are folded into a value by a closure that may fail.
-ghost use Rattle.std.specs.Prelude.{◌≡◌};
+ghost use Rattle.std.specs.Prelude.{◌≡◌, Err, IsTrue, Ok};
 ghost use Rattle.stream_errors.specs.Given.{Keeping, KindGiven};
 ghost use Rattle.stream_sets.specs.declared.range.Range.{Range};
 ghost use Rattle.streams.specs.Kind.{backtrack};
-ghost use Rattle.winnow_repeat.specs.TryFold.{TryFoldTakes, try_fold_closure};
+ghost use Rattle.winnow_repeat.specs.TryFold.{try_fold_closure};
 ghost use Rattle.parser_definitions.specs.Terms.{no_claim, nothing_claimed};
 ghost use Rattle.parser_definitions.specs.Closures.{trying};
 ghost use Rattle.parser_definitions.specs.Fold.{BothOrFail, FoldsAlike, MakesOne, TryFoldDoes};
@@ -41,7 +41,13 @@ impl<
 
     ghost state = { λ s. (s.closure, E.external_gives) };
 
-    ghost folds = { TryFoldTakes H.step };
+    ghost takes = { λ h r o d k. H.step h.0 r o (Ok d) k.0 × (k.1 ≡ h.1) };
+
+    ghost rejects = { λ h r o k. (x : X) × H.step h.0 r o (Err x) k.0 × IsTrue (h.1 x).kept
+        × (k.1 ≡ h.1) };
+
+    ghost grows = { λ h r o. (x : X) × (k : H) × H.step h.0 r o (Err x) k
+        × IsTrue (h.1 x).refused };
 
     ghost refuses = { λ refusal k. KindGiven (E.external_gives refusal) backtrack k };
 

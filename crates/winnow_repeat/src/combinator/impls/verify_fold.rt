@@ -1,8 +1,7 @@
 //! The implementation of `verify_fold`.
-ghost use Rattle.std.specs.Prelude.{◌≡◌};
+ghost use Rattle.std.specs.Prelude.{◌≡◌, None, Some};
 ghost use Rattle.stream_sets.specs.declared.range.Range.{Range};
 ghost use Rattle.streams.specs.Kind.{backtrack};
-ghost use Rattle.winnow_repeat.specs.VerifyFold.{VerifyFoldTakes};
 ghost use Rattle.winnow_repeat.specs.VerifyFold.{verify_fold_closure};
 ghost use Rattle.parser_definitions.specs.Terms.{no_claim, nothing_claimed};
 ghost use Rattle.parser_definitions.specs.Closures.{verifying};
@@ -33,7 +32,11 @@ impl<H: FnMut(R, O) -> Option<R>, I: Stream, O, R, E: ParserError<I>> Folding<I,
 
     ghost state = { λ s. s.closure };
 
-    ghost folds = { VerifyFoldTakes H.step };
+    ghost takes = { λ h r o d k. H.step h r o (Some d) k };
+
+    ghost rejects = { λ h r o k. H.step h r o None k };
+
+    ghost grows = { λ h r o. ⊥ };
 
     ghost refuses = { λ _ k. k ≡ backtrack };
 

@@ -1,48 +1,79 @@
 use Rattle.winnow_core.specs.Ends.{fewer_tokens, same_units}
-use Rattle.winnow_repeat.specs.Room.{room_behind_more, room_behind_none, some_room}
-use Rattle.std.proofs.Common.{rules, arith, inl, inr, [], ◌∷◌, ◌++◌, length-append}
-use Rattle.streams.specs.Input.{is_end_of_refl, is_end_of_trans}
-use Rattle.winnow_repeat.proofs.RepeatLemmas.{chain_none, chain_more, accumulates_none}
-use Rattle.winnow_repeat.proofs.RepeatLemmas.{accumulates_more}
+use Rattle.std.proofs.Common.{rules, arith, refl, ◌≡◌, ◌<◌, ◌+◌}
+use Rattle.streams.specs.Kind.{backtrack}
+use Rattle.winnow_repeat.specs.Called.{collected_more, collected_none, enough_ran, failed_ran}
+use Rattle.winnow_repeat.specs.Called.{full_ran, item_called, item_failed, item_stuck, stuck_ran}
+use Rattle.winnow_repeat.specs.Called.{wanting_ran}
+use Rattle.winnow_repeat.specs.Room.{no_room, room_behind_more, room_behind_none, some_room}
 use Rattle.winnow_repeat.proofs.combinator.items.repeat_items.Goals as goal
+use Rattle.winnow_repeat.proofs.combinator.items.repeat_items.Goals.{
+  else-missing-eq0-via-then-missing-eq0+else-is_backtrack,
+  else-missing-eq0-via-else-missing-eq0,
+}
 
 pub items-init : goal.items-init
-items-init g c = (
-  [],
-  chain_none _ _ _,
-  accumulates_none _ _,
-  room_behind_none _ _,
-  is_end_of_refl _ _,
-  c.requires.parser,
-)
+items-init g c = (0, collected_none, room_behind_none _ _, c.requires)
+
+pub returns-then-eq-clause-ran : goal.returns-then-eq-clause-ran
+returns-then-eq-clause-ran g c =
+    let inv = c.items.invariant in
+    full_ran inv.1 (no_room _ _ _ _ _ inv.2 (search rules depth 1))
 
 pub returns-then-eof_offset-left-clause-ran : goal.returns-then-eof_offset-left-clause-ran
 returns-then-eof_offset-left-clause-ran g c =
     let inv = c.items.invariant in
-    let below = some_room _ _ _ _ _ inv.3 (λ e. search rules depth 1) in
-    let same = same_units g.I.Stream.reading _ _ c.in-Ok.ensures.ran.0 (omega arith) in (
-      inv.0,
-      _,
-      _,
-      inv.1,
-      inr (inr (inr (inl
-          (c.in-Ok.output, _, below, c.in-Ok.ensures.ran, same, inv.2, search rules depth 1)))),
-    )
+    let below = some_room _ _ _ _ _ inv.2 (λ e. search rules depth 1) in
+    let same = same_units g.I.Stream.reading _ _ c.in-Ok.ensures.ran.0 (omega arith) in
+    let item = item_stuck g.I.Stream.reading g.P.Parser.does g.E.HasKind.form _ _ _ _ _
+    c.in-Ok.ensures.ran same in
+    stuck_ran inv.1 below _ _ item _ c.assert.ensures
+
+pub returns-in-Err-accumulate-clause-ran : goal.returns-in-Err-accumulate-clause-ran
+returns-in-Err-accumulate-clause-ran g c =
+    let inv = c.items.invariant in
+    let below = some_room _ _ _ _ _ inv.2 (λ e. search rules depth 1) in
+    let fewer = fewer_tokens g.I.Stream.reading _ _ c.in-Ok.ensures.ran.0
+    (λ e. absurd (omega (arith, e))) in
+    let item = item_called g.I.Stream.reading g.P.Parser.does g.E.HasKind.form _ _ _ _ _
+    c.in-Ok.ensures.ran fewer in
+    wanting_ran inv.1 below _ _ _ item (search rules depth 1) _ c.no_memory.ensures
+
+pub returns-then-is_backtrack-clause-ran : goal.returns-then-is_backtrack-clause-ran
+returns-then-is_backtrack-clause-ran g c =
+    let inv = c.items.invariant in
+    let below = some_room _ _ _ _ _ inv.2 (λ e. search rules depth 1) in
+    let item = item_failed g.I.Stream.reading g.P.Parser.does g.E.HasKind.form _ _
+    (g.P.Parser.state c.parse_next.new.self) _ (g.E.HasKind.kind c.in-Err.error)
+    c.in-Err.ensures.ran in
+    enough_ran inv.1 below _ _ (omega (arith, inv.2.still_missing)) _ (search rules depth 1) item _
+    (search rules depth 1)
+
+pub returns-in-Err-clause-ran : goal.returns-in-Err-clause-ran
+returns-in-Err-clause-ran g c =
+    let inv = c.items.invariant in
+    let below = some_room _ _ _ _ _ inv.2 (λ e. search rules depth 1) in
+    let item = item_failed g.I.Stream.reading g.P.Parser.does g.E.HasKind.form _ _
+    (g.P.Parser.state c.parse_next.new.self) _ (g.E.HasKind.kind c.in-Err.error)
+    c.in-Err.ensures.ran in
+    failed_ran inv.1 below _ _ _ _ refl few item
+  where
+    few : g.E.HasKind.kind c.in-Err.error ≡ backtrack → c.items.invariant.0 < c.args.missing
+    few e = elim c.else-missing-eq0.branch [
+      | else-missing-eq0-via-then-missing-eq0+else-is_backtrack w ↦ search rules depth 1
+      | else-missing-eq0-via-else-missing-eq0 w ↦ omega (arith, c.items.invariant.2.still_missing)
+    ]
 
 pub items-preserved : goal.items-preserved
 items-preserved g c =
     let inv = c.items.invariant in
+    let below = some_room _ _ _ _ _ inv.2 (λ e. search rules depth 1) in
     let fewer = fewer_tokens g.I.Stream.reading _ _ c.in-Ok.ensures.ran.0
-    (λ e. absurd (omega (arith, e))) in (
-      inv.0 ++ (c.in-Ok.output ∷ []),
-      chain_more inv.1 c.in-Ok.ensures.ran fewer,
-      accumulates_more inv.2 (search rules depth 1),
-      room_behind_more _ _ _ _ _ _ _ _ inv.3 (λ e. search rules depth 1)
-          c.saturating_sub-missing.ensures
-          (search rules depth 1) (length-append inv.0 (c.in-Ok.output ∷ [])),
-      is_end_of_trans c.in-Ok.ensures.ran.0 inv.4,
+    (λ e. absurd (omega (arith, e))) in
+    let item = item_called g.I.Stream.reading g.P.Parser.does g.E.HasKind.form _ _ _ _ _
+    c.in-Ok.ensures.ran fewer in (
+      inv.0 + 1,
+      collected_more inv.1 below _ _ _ item _ _ (search rules depth 1, refl),
+      room_behind_more _ _ _ _ _ _ _ _ inv.2 (λ e. search rules depth 1)
+          c.saturating_sub-missing.ensures (search rules depth 1) refl,
       c.in-Ok.ensures.again,
     )
-
-pub returns-then-is_backtrack-clause-ran : goal.returns-then-is_backtrack-clause-ran
-returns-then-is_backtrack-clause-ran g c = search rules depth 1

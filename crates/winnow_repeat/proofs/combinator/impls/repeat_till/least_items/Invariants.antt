@@ -1,19 +1,19 @@
-use Rattle.parser_definitions.specs.Does.{Ran}
-use Rattle.std.proofs.Common.{◌≡◌, ◌+◌, List, length}
-use Rattle.streams.specs.Input.{IsEndOf}
-use Rattle.stream_sets.specs.Accumulator.Holds.{Accumulates}
-use Rattle.winnow_repeat.specs.Chain.{Successes}
+use Rattle.std.proofs.Common.{◌≡◌, ◌+◌, ℕ, Some}
+use Rattle.stream_sets.specs.Range.{from_to}
+use Rattle.parser_definitions.specs.Folding.{gathering}
+use Rattle.parser_definitions.specs.RepeatTill.{Every}
+use Rattle.parser_definitions.specs.Then.Steps.{instead, same}
+use Rattle.winnow_repeat.specs.Called.{Collected}
 use Rattle.winnow_repeat.proofs.combinator.impls.repeat_till.least_items.Given as goal
 
 abbrev pub invariant-items : goal.invariant-items
 invariant-items g l =
-    (outputs : List _)
-    × Successes (Ran g.I.Stream.reading g.P.Parser.does g.E.HasKind.form)
-    (g.P.Parser.state l.fn.parser) (g.I.Stream.view l.fn.input) outputs
+    (n : ℕ)
+    × Collected g.I.Stream.reading same instead (gathering g.C.Accumulate.accumulator)
+    (from_to l.fn.least (Some l.fn.least)) (Every g.P.Parser.does) g.E.HasKind.form l.fn.empty
+    (g.P.Parser.state l.fn.parser) (g.I.Stream.view l.fn.input) l.all n
     (g.P.Parser.state l.parser) (g.I.Stream.view l.input)
-    × Accumulates g.C.Accumulate.accumulator.takes l.fn.empty outputs l.all
-    × (length outputs + l.missing ≡ l.fn.least)
-    × IsEndOf g.I.Stream.reading (g.I.Stream.view l.input) (g.I.Stream.view l.fn.input)
+    × (n + l.missing ≡ l.fn.least)
     × g.P.Parser.can_parse l.parser
 
 abbrev pub decreases-items : goal.decreases-items

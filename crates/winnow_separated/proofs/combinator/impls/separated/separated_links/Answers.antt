@@ -2,8 +2,8 @@ use Rattle.std.proofs.Common.{rules, refl, arith, ◌≡◌, ◌<◌, ◌+◌}
 use Rattle.streams.specs.Kind.{backtrack}
 use Rattle.winnow_repeat.specs.Room.{no_room, room_behind_more, room_behind_none, some_room}
 use Rattle.winnow_separated.proofs.LinkLemmas.{only_error, only_none, only_some}
-use Rattle.winnow_separated.proofs.TurnLemmas.{collected_more, collected_none, enough_ran}
-use Rattle.winnow_separated.proofs.TurnLemmas.{failed_ran, full_ran, stuck_ran, wanting_ran}
+use Rattle.winnow_repeat.specs.Called.{collected_more, collected_none, enough_ran}
+use Rattle.winnow_repeat.specs.Called.{failed_ran, full_ran, stuck_ran, wanting_ran}
 use Rattle.winnow_separated.proofs.combinator.impls.separated.separated_links.Goals as goal
 use Rattle.winnow_separated.proofs.combinator.impls.separated.separated_links.Goals.{
   else-missing-eq0-via-then-missing-eq0+else-is_backtrack,
@@ -60,7 +60,7 @@ returns-in-Err-clause-ran g c =
     _ _
     (g.P.Parser.state c.run.new.self.parser, g.S.Parser.state c.run.new.self.separator) _
     (g.E.HasKind.kind c.in-Err.error) c.in-Err.ensures.ran in
-    λ r. failed_ran (inv.1 r) below _ _ _ few element
+    λ r. failed_ran (inv.1 r) below _ _ _ _ refl few element
   where
     few : g.E.HasKind.kind c.in-Err.error ≡ backtrack → c.links.invariant.0 < c.args.missing
     few e = elim c.else-missing-eq0.branch [

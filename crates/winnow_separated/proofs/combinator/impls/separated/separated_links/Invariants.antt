@@ -5,7 +5,7 @@ use Rattle.parser_definitions.specs.Folding.{gathering}
 use Rattle.parser_definitions.specs.Threes.{pair_of, with_pair}
 use Rattle.winnow_repeat.specs.Room.{RoomAfter}
 use Rattle.winnow_separated.specs.Separated.{OnlyElements}
-use Rattle.winnow_separated.proofs.TurnLemmas.{Collected}
+use Rattle.winnow_repeat.specs.Called.{Collected}
 use Rattle.winnow_separated.proofs.combinator.impls.separated.separated_links.Given as goal
 
 abbrev pub invariant-links : goal.invariant-links

@@ -1,8 +1,8 @@
 use Rattle.std.proofs.Common.{of_calls, rules, refl, arith, ◌+◌}
 use Rattle.winnow_separated.specs.Link.{LinkDoes}
 use Rattle.winnow_separated.proofs.LinkLemmas.{output_is}
-use Rattle.winnow_separated.proofs.TurnLemmas.{collected_more, collected_none, enough_ran}
-use Rattle.winnow_separated.proofs.TurnLemmas.{failed_ran, stuck_ran}
+use Rattle.winnow_repeat.specs.Called.{collected_more, collected_none, enough_ran}
+use Rattle.winnow_repeat.specs.Called.{failed_ran, stuck_ran}
 use Rattle.winnow_separated.proofs.combinator.impls.separated_foldl1.join_left.Goals as goal
 
 pub links-init : goal.links-init
@@ -27,7 +27,7 @@ returns-then-is_backtrack-clause-ran g c =
 
 pub returns-in-Err-clause-ran : goal.returns-in-Err-clause-ran
 returns-in-Err-clause-ran g c =
-    failed_ran c.links.invariant.1 tt _ _ _ (λ e. search rules depth 1) c.in-Err.ensures.ran
+    failed_ran c.links.invariant.1 tt _ _ _ _ refl (λ e. search rules depth 1) c.in-Err.ensures.ran
 
 pub links-preserved : goal.links-preserved
 links-preserved g c =

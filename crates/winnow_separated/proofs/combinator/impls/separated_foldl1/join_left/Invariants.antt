@@ -4,7 +4,7 @@ use Rattle.parser_definitions.specs.Closures.{folding_in}
 use Rattle.parser_definitions.specs.SeparatedFold.{joining}
 use Rattle.parser_definitions.specs.Threes.{pair_of, three_of, with_pair, with_three}
 use Rattle.winnow_separated.specs.Link.{LinkDoes}
-use Rattle.winnow_separated.proofs.TurnLemmas.{Collected}
+use Rattle.winnow_repeat.specs.Called.{Collected}
 use Rattle.winnow_separated.proofs.combinator.impls.separated_foldl1.join_left.Given as goal
 
 abbrev pub invariant-links : goal.invariant-links
