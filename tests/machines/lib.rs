@@ -14,3 +14,5 @@ mod numbers;
 mod repeated;
 #[cfg(test)]
 mod rows;
+#[cfg(test)]
+mod words;
