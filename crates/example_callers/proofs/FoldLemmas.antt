@@ -4,7 +4,7 @@ use Rattle.std.specs.Borrow.{Bor}
 use Rattle.std.proofs.Common.{refl, sym, ap, subst, ◌∙◌, arith}
 use Rattle.winnow.specs.Bytes.{bytes_reading}
 use Rattle.winnow.specs.FoldLaws.{DecidesOutputs, FoldTheSameIf}
-use Rattle.winnow.specs.AnyDefinition.{AnyDoes}
+use Rattle.winnow.specs.Any.{AnyDoes}
 use Rattle.winnow.specs.Inversion.Tokens.{any_ok, literal_taken}
 use Rattle.winnow.specs.Left.{Left}
 use Rattle.winnow.specs.LiteralDefinition.{LiteralDoes}
