@@ -7,7 +7,8 @@ The comment of each public item, `///` in a crate's `src/`, must begin with a ca
 code span, end its first paragraph as a sentence, and mention each other name of the item once
 ("Known as `tag` in nom"). Every public item of the library must have one. README.md may have at
 most 700 words outside of its code blocks, and at most 25 nonempty lines of code. A file of specs or
-proofs may import only names that it uses. It fails if there is an error.
+proofs may import only names that it uses, and every file only modules that the facade `winnow` has.
+It fails if there is an error.
 """
 import pathlib
 import re
@@ -20,6 +21,8 @@ ITEM = re.compile(r"\s*(?:pub |final )+(?:const fn|fn|struct|trait|enum|const|ty
 ATTRIBUTE = re.compile(r"\s*#\[")
 IMPORT = re.compile(r"^use Rattle[^;{}\n]*\{([^}=]*)\}\n", re.M)
 PROOFS = "specs", "proofs"
+FACADE = re.compile(r"Rattle\.winnow\.specs\.(\w+)")
+PASSED_ON = re.compile(r"^pub use Rattle\.([\w.]+?)(?:\.\{(\w+)\}| as\s+(\w+))?$", re.M)
 MOST_WORDS, MOST_CODE = 700, 25
 
 
@@ -84,8 +87,21 @@ def unused(path):
                 yield name
 
 
+def facade():
+    """Returns the names of the modules and types that the facade passes on."""
+    text = read(CRATES / "winnow/specs/Lib.antt")
+    found = {one or other or path.rpartition(".")[2] for path, one, other in PASSED_ON.findall(text)}
+    return found | {*re.findall(r"^pub mod (\w+)$", text, re.M)}
+
+
 def main():
     wrong = 0
+    modules = facade()
+    folders = [CRATES.glob(f"*/{it}/**/*") for it in ("src", *PROOFS)] + [(TOP / it).glob("**/*") for it in ("tests", "bench")]
+    for path in sorted(it for files in folders for it in files if it.suffix in (".rt", ".rs", ".antt")):
+        for name in sorted({*FACADE.findall(read(path))} - modules):
+            wrong += 1
+            print(f"{path.relative_to(TOP)}: winnow.specs has no {name}")
     for fault in faults_of_readme():
         wrong += 1
         print(f"README.md: {fault}")
