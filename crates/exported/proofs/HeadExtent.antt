@@ -1,7 +1,10 @@
 -- Lemmas about successive calls for the end of a head.
-use Rattle.std.specs.Prelude.{◌≡◌, ◌++◌, ℕ, List, [], Option, None, Some, Result, Ok, Err}
-use Rattle.std.proofs.Common.{refl, subst, sym}
-use Rattle.format_http_places.specs.Extents.{Begins, HeadResult, IsOf, Never}
+use Rattle.std.specs.Prelude.{◌≡◌, ◌≤◌, ◌<◌, ◌⊎◌, ◌++◌, ⊤, ℕ, List, [], Option, None, Some}
+use Rattle.std.specs.Prelude.{Result, Ok, Err, drop, length}
+use Rattle.std.proofs.Common.{ap, arith, inl, inr, length-append, refl, subst, sym}
+use Rattle.std.proofs.lemmas.Bool.{cases_lt}
+use Rattle.std.proofs.lemmas.List.{length-drop}
+use Rattle.format_http_places.specs.Extents.{Begins, HeadResult, IsLed, IsOf, Never}
 use Rattle.format_http_places.specs.Refusals.{IsRefusedBy}
 use Rattle.format_http_places.specs.declared.extent.HeadExtent.{HeadExtent}
 use Rattle.format_http_places.specs.declared.parts.HeadKind.{HeadKind}
@@ -41,6 +44,54 @@ pub never_at : (k : HeadKind) (bytes : List ℕ) (answer : Result (Option ℕ) I
 never_at k bytes answer it e told =
     let Q : Result (Option ℕ) Invalid → Type 0 = λ a. HeadResult k bytes a in
     let found : HeadResult k bytes (Err it) = subst Q e told in found.0
+
+-- ---- any state
+
+-- the length or the offset in a result is at most `n`
+abbrev pub StopsWithin : ℕ → Result (Option ℕ) Invalid → Type 0
+StopsWithin n (Ok (Some count)) = count ≤ n
+StopsWithin n (Ok None) = ⊤
+StopsWithin n (Err it) = it.place ≤ n
+
+module _ (old new : HeadExtent) (bytes : List ℕ) where
+  passed_within : (answer : Result (Option ℕ) Invalid) → old.passed ≤ length bytes
+      → IsLed old (drop old.passed bytes) new answer → new.passed ≤ length bytes
+  passed_within answer room (left, walked, sum, stopped, says) =
+      omega (
+        arith,
+        room,
+        sum,
+        length-drop old.passed bytes,
+        ap (λ l. length l) walked.splits,
+        length-append walked.front left,
+      )
+
+  led_within : (answer : Result (Option ℕ) Invalid) → old.passed ≤ length bytes
+      → IsLed old (drop old.passed bytes) new answer → StopsWithin (length bytes) answer
+  led_within (Ok (Some count)) room led =
+      let (left, walked, sum, stopped, (ended, is)) = led in
+      omega (arith, is, passed_within (Ok (Some count)) room led)
+  led_within (Ok None) room led = tt
+  led_within (Err it) room led =
+      let (left, walked, sum, stopped, (not, some, at, part)) = led in
+      omega (arith, at, passed_within (Err it) room led)
+
+  pub stops_within : (answer : Result (Option ℕ) Invalid)
+      → (old.passed ≤ length bytes → IsLed old (drop old.passed bytes) new answer)
+      → (length bytes < old.passed → (answer ≡ Ok None) × (new ≡ old))
+      → (it : Result (Option ℕ) Invalid) → answer ≡ it → StopsWithin (length bytes) it
+  stops_within answer fresh short it is =
+      let P : Result (Option ℕ) Invalid → Type 0 = λ a. StopsWithin (length bytes) a in
+      subst P is (by (cases_lt (length bytes) old.passed))
+    where
+      by : (length bytes < old.passed) ⊎ (old.passed ≤ length bytes)
+          → StopsWithin (length bytes) answer
+      by (inl past) =
+          let Q : Result (Option ℕ) Invalid → Type 0 = λ a. StopsWithin (length bytes) a in
+          subst Q (sym (short past).0) tt
+      by (inr room) = led_within answer room (fresh room)
+
+-- ---- calls in turn
 
 pub head_calls : (k : HeadKind) (pieces : List (List ℕ)) (state : HttpHeadState)
     → HeadCalls k nothing [] pieces state

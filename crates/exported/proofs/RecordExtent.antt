@@ -1,7 +1,10 @@
 -- Lemmas about successive calls for the end of a record.
-use Rattle.std.specs.Prelude.{◌≡◌, ◌++◌, ℕ, List, [], Option, None, Some, Result, Ok, Err}
-use Rattle.std.proofs.Common.{inr, refl, subst, sym}
-use Rattle.format_csv_records.specs.Extents.{IsOf, RecordResult}
+use Rattle.std.specs.Prelude.{◌≡◌, ◌≤◌, ◌<◌, ◌⊎◌, ◌++◌, ⊤, ℕ, List, [], Option, None, Some}
+use Rattle.std.specs.Prelude.{Result, Ok, Err, drop, length}
+use Rattle.std.proofs.Common.{ap, arith, inl, inr, length-append, refl, subst, sym}
+use Rattle.std.proofs.lemmas.Bool.{cases_lt}
+use Rattle.std.proofs.lemmas.List.{length-drop}
+use Rattle.format_csv_records.specs.Extents.{IsFew, IsLed, IsOf, RecordResult}
 use Rattle.format_csv_records.specs.Refused.{IsRefused}
 use Rattle.format_csv_records.specs.declared.buffers.RecordSize.{RecordSize}
 use Rattle.format_csv_records.specs.declared.dialect.Dialect.{Dialect}
@@ -48,6 +51,73 @@ module _ (d : Dialect) (old new : RecordExtent) (bytes : List ℕ)
   tells_record here =
       let R : RecordExtent → Type 0 = λ e. IsOf d e bytes in
       tells_of (subst R (sym was) here)
+
+-- ---- any state
+
+-- the length or the offset in a result is at most `n`
+abbrev pub StopsWithin : ℕ → Result (Option RecordSize) InvalidRecord → Type 0
+StopsWithin n (Ok (Some size)) = size.length ≤ n
+StopsWithin n (Ok None) = ⊤
+StopsWithin n (Err fault) = fault.offset ≤ n
+
+module _ (d : Dialect) (old new : RecordExtent) (bytes : List ℕ) where
+  passed_within : (answer : Result (Option RecordSize) InvalidRecord)
+      → old.passed ≤ length bytes → IsLed d old (drop old.passed bytes) new answer
+      → new.passed ≤ length bytes
+  passed_within answer room (taken, left, why, splits, sum, keeps, stopped, says) =
+      omega (
+        arith,
+        room,
+        sum,
+        length-drop old.passed bytes,
+        ap (λ l. length l) splits,
+        length-append taken left,
+      )
+
+  led_within : (answer : Result (Option RecordSize) InvalidRecord)
+      → old.passed ≤ length bytes → IsLed d old (drop old.passed bytes) new answer
+      → StopsWithin (length bytes) answer
+  led_within (Ok (Some size)) room led =
+      let (taken, left, why, splits, sum, keeps, stopped, says) = led in
+      omega (arith, says.4, passed_within (Ok (Some size)) room led)
+  led_within (Ok None) room led = tt
+  led_within (Err fault) room led =
+      let (taken, left, why, splits, sum, keeps, stopped, says) = led in
+      omega (arith, says.1, passed_within (Err fault) room led)
+
+  module _ (answer : Result (Option RecordSize) InvalidRecord)
+      (fresh : old.passed ≤ length bytes → IsFew old
+      → IsLed d old (drop old.passed bytes) new answer)
+      (short : length bytes < old.passed → (answer ≡ Ok None) × (new ≡ old))
+      (many : (IsFew old → ⊥) → (answer ≡ Ok None) × (new ≡ old)) where
+    none_within : answer ≡ Ok None → StopsWithin (length bytes) answer
+    none_within is =
+        let P : Result (Option RecordSize) InvalidRecord → Type 0 =
+        λ a. StopsWithin (length bytes) a in
+        subst P (sym is) tt
+
+    few_within : old.passed ≤ length bytes → (old.passed < old.text) ⊎ (old.text ≤ old.passed)
+        → (old.passed < old.fields) ⊎ (old.fields ≤ old.passed)
+        → StopsWithin (length bytes) answer
+    few_within room (inl more) fields = none_within (many (λ few. omega (arith, more, few.0))).0
+    few_within room (inr text) (inl more) =
+        none_within (many (λ few. omega (arith, more, few.1))).0
+    few_within room (inr text) (inr fields) = led_within answer room (fresh room (text, fields))
+
+    all_within : (length bytes < old.passed) ⊎ (old.passed ≤ length bytes)
+        → StopsWithin (length bytes) answer
+    all_within (inl past) = none_within (short past).0
+    all_within (inr room) =
+        few_within room (cases_lt old.passed old.text) (cases_lt old.passed old.fields)
+
+    pub stops_within : (it : Result (Option RecordSize) InvalidRecord) → answer ≡ it
+        → StopsWithin (length bytes) it
+    stops_within it is =
+        let P : Result (Option RecordSize) InvalidRecord → Type 0 =
+        λ a. StopsWithin (length bytes) a in
+        subst P is (all_within (cases_lt (length bytes) old.passed))
+
+-- ---- calls in turn
 
 pub record_calls : (d : Dialect) (pieces : List (List ℕ)) (state : CsvRecordState)
     → RecordCalls d nothing [] pieces state

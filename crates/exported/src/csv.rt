@@ -1,6 +1,6 @@
 //! Records of comma separated values.
 
-ghost use Rattle.std.specs.Prelude.{◌≡◌, ◌<◌, ◌⊎◌, ◌↔◌, length, take};
+ghost use Rattle.std.specs.Prelude.{◌≡◌, ◌≤◌, ◌<◌, ◌⊎◌, ◌↔◌, drop, length, take};
 ghost use Rattle.format_csv_records.specs.Buffers.{IsForGood, IsSized, NoneForGood};
 ghost use Rattle.format_csv_records.specs.Buffers.{ShowsFields};
 ghost use Rattle.format_csv_records.specs.Dialects.{IsRecord};
@@ -66,6 +66,10 @@ fn write_record(
     ensures record { result ≡ done
         → ShowsFields span_of dialect bytes.now size (take out.new.text text.new)
         (take out.new.fields fields.new) }
+    ensures fits { result ≡ done → (out.new.fields ≤ length fields.old)
+        × (out.new.text ≤ length text.old) }
+    ensures behind { result ≡ done → (drop out.new.text text.new ≡ drop out.new.text text.old)
+        × (drop out.new.fields fields.new ≡ drop out.new.fields fields.old) }
     ensures small { result ≡ buffer_too_small
         → (length fields.old < out.new.fields) ⊎ (length text.old < out.new.text) }
     ensures kept { result ≡ buffer_too_small → (fields.new ≡ fields.old) × (text.new ≡ text.old) }
@@ -95,6 +99,10 @@ fn read_record(
 ) -> u32
     ensures record { result ≡ done → ShowsRecord (IsRecord dialect) bytes.now out.new
         (take out.new.text text.new) (take out.new.fields fields.new) }
+    ensures fits { result ≡ done → (out.new.fields ≤ length fields.old)
+        × (out.new.text ≤ length text.old) }
+    ensures behind { result ≡ done → (drop out.new.text text.new ≡ drop out.new.text text.old)
+        × (drop out.new.fields fields.new ≡ drop out.new.fields fields.old) }
     ensures small { result ≡ buffer_too_small → WantsRecord (IsRecord dialect) bytes.now out.new }
     ensures room { result ≡ buffer_too_small
         → (length fields.old < out.new.fields) ⊎ (length text.old < out.new.text) }
@@ -160,6 +168,10 @@ pub extern "C" fn exported_csv_record(
     ensures record { result ≡ done → (d : Dialect) → IsDialect dialect.now d
         → ShowsRecord (IsRecord d) bytes.now out.new
         (take out.new.text text.new) (take out.new.fields fields.new) }
+    ensures fits { result ≡ done → (out.new.fields ≤ length fields.old)
+        × (out.new.text ≤ length text.old) }
+    ensures behind { result ≡ done → (drop out.new.text text.new ≡ drop out.new.text text.old)
+        × (drop out.new.fields fields.new ≡ drop out.new.fields fields.old) }
     ensures small { result ≡ buffer_too_small → (d : Dialect) → IsDialect dialect.now d
         → WantsRecord (IsRecord d) bytes.now out.new }
     ensures room { result ≡ buffer_too_small
@@ -194,6 +206,10 @@ fn read_partial(
     requires { dialect.quote < 256 }
     ensures record { result ≡ done → ShowsRecord (IsForGood dialect) bytes.now out.new
         (take out.new.text text.new) (take out.new.fields fields.new) }
+    ensures fits { result ≡ done → (out.new.fields ≤ length fields.old)
+        × (out.new.text ≤ length text.old) }
+    ensures behind { result ≡ done → (drop out.new.text text.new ≡ drop out.new.text text.old)
+        × (drop out.new.fields fields.new ≡ drop out.new.fields fields.old) }
     ensures small { result ≡ buffer_too_small → WantsRecord (IsForGood dialect) bytes.now out.new }
     ensures room { result ≡ buffer_too_small
         → (length fields.old < out.new.fields) ⊎ (length text.old < out.new.text) }
@@ -264,6 +280,10 @@ pub extern "C" fn exported_csv_record_partial(
     ensures record { result ≡ done → (d : Dialect) → IsDialect dialect.now d
         → ShowsRecord (IsForGood d) bytes.now out.new
         (take out.new.text text.new) (take out.new.fields fields.new) }
+    ensures fits { result ≡ done → (out.new.fields ≤ length fields.old)
+        × (out.new.text ≤ length text.old) }
+    ensures behind { result ≡ done → (drop out.new.text text.new ≡ drop out.new.text text.old)
+        × (drop out.new.fields fields.new ≡ drop out.new.fields fields.old) }
     ensures small { result ≡ buffer_too_small → (d : Dialect) → IsDialect dialect.now d
         → WantsRecord (IsForGood d) bytes.now out.new }
     ensures room { result ≡ buffer_too_small

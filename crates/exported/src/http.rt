@@ -1,7 +1,7 @@
 //! Heads of requests. Submodules have the heads of responses, the errors of both, the end of a head
 //! in partial input, the fields of a name, the lengths of bodies, and chunked bodies.
 
-ghost use Rattle.std.specs.Prelude.{◌≡◌, ◌⊎◌, ◌<◌, List, length, take, ℕ};
+ghost use Rattle.std.specs.Prelude.{◌≡◌, ◌⊎◌, ◌≤◌, ◌<◌, List, drop, length, take, ℕ};
 ghost use Rattle.format_http.specs.Heads.Head.{IsHead, Pair, Request};
 ghost use Rattle.format_http.specs.Heads.Head.{BeginsHead, NoHead};
 ghost use Rattle.format_http_places.specs.Places.{IsWanted, ShowsHead};
@@ -113,6 +113,9 @@ fn head_of(found: places::Head) -> Head
 pub extern "C" fn exported_http_head(bytes: &[u8], fields: &mut [Field], out: &mut Head) -> u32
     ensures head { result ≡ done
         → ShowsHead bytes.now (places_of out.new) (take out.new.fields fields.new) }
+    ensures room { result ≡ done → out.new.fields ≤ length fields.old }
+    ensures behind { result ≡ done
+        → drop out.new.fields fields.new ≡ drop out.new.fields fields.old }
     ensures small { result ≡ buffer_too_small → IsWanted bytes.now out.new.fields
         × (length fields.old < out.new.fields) }
     ensures refused { result ≡ invalid → (line : Request) (pairs : List Pair) (rest : List ℕ)
@@ -175,6 +178,9 @@ pub extern "C" fn exported_http_head_partial(
 ) -> u32
     ensures head { result ≡ done
         → ShowsHead bytes.now (places_of out.new) (take out.new.fields fields.new) }
+    ensures room { result ≡ done → out.new.fields ≤ length fields.old }
+    ensures behind { result ≡ done
+        → drop out.new.fields fields.new ≡ drop out.new.fields fields.old }
     ensures small { result ≡ buffer_too_small → IsWanted bytes.now out.new.fields
         × (length fields.old < out.new.fields) }
     ensures refused { result ≡ invalid → NoHead bytes.now }

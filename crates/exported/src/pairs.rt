@@ -1,6 +1,6 @@
 //! Lines of a key and a value, and documents of them in sections, by one fixed grammar.
 
-ghost use Rattle.std.specs.Prelude.{◌≡◌, ◌⊎◌, ◌<◌, ◌^◌, length, map, take};
+ghost use Rattle.std.specs.Prelude.{◌≡◌, ◌⊎◌, ◌≤◌, ◌<◌, ◌^◌, drop, length, map, take};
 ghost use Rattle.readers.specs.Document.{IsRefusedDocument};
 ghost use Rattle.readers.specs.Pair.{IsRefusedPair};
 ghost use Rattle.readers.specs.Sections.{pair_text};
@@ -126,6 +126,11 @@ fn write_entries(
     ensures entries { result ≡ done
         → AreEntries (take out.new.text text.new) (take out.new.entries entries.new)
         (map pair_text found.now) }
+    ensures room { result ≡ done → (out.new.entries ≤ length entries.old)
+        × (out.new.text ≤ length text.old) }
+    ensures behind { result ≡ done
+        → (drop out.new.text text.new ≡ drop out.new.text text.old)
+        × (drop out.new.entries entries.new ≡ drop out.new.entries entries.old) }
     ensures small { result ≡ buffer_too_small
         → (length entries.old < out.new.entries) ⊎ (length text.old < out.new.text) }
     ensures kept { result ≡ buffer_too_small → (entries.new ≡ entries.old) × (text.new ≡ text.old) }
@@ -190,6 +195,11 @@ pub extern "C" fn exported_pair_document(
 ) -> u32
     ensures document { result ≡ done → ShowsDocument bytes.now out.new
         (take out.new.text text.new) (take out.new.entries entries.new) }
+    ensures room { result ≡ done → (out.new.entries ≤ length entries.old)
+        × (out.new.text ≤ length text.old) }
+    ensures behind { result ≡ done
+        → (drop out.new.text text.new ≡ drop out.new.text text.old)
+        × (drop out.new.entries entries.new ≡ drop out.new.entries entries.old) }
     ensures small { result ≡ buffer_too_small → WantsDocument bytes.now out.new
         × ((length entries.old < out.new.entries) ⊎ (length text.old < out.new.text)) }
     ensures kept { (result ≡ done → ⊥) → (entries.new ≡ entries.old) × (text.new ≡ text.old) }

@@ -2,8 +2,8 @@
 use Rattle.std.specs.Prelude.{◌≡◌, ◌≤◌, ◌<◌, ◌+◌, ◌-◌, ℕ, List, [], ◌∷◌, ◌++◌, drop, length}
 use Rattle.std.specs.Prelude.{take, Bool, MatchBool}
 use Rattle.std.proofs.Common.{refl, sym, ap, inl, inr, ◌∙◌, arith, append_assoc}
-use Rattle.std.proofs.Common.{length-append}
-use Rattle.std.proofs.lemmas.List.{append-nil, drop_at}
+use Rattle.std.proofs.Common.{length-append, slice_set}
+use Rattle.std.proofs.lemmas.List.{append-nil, drop-drop, drop-set-lt, drop_at}
 use Rattle.std.proofs.lemmas.List.{flat_map_more, length-drop, length-take-le}
 use Rattle.std.specs.List.{All}
 use Rattle.format_csv_records.specs.Apart.{IsApart}
@@ -19,6 +19,29 @@ use Rattle.format_csv_records.proofs.Alone.{Between, closed_here, more_here, run
 use Rattle.format_csv_records.proofs.Whole.{SoFar, first_text, so_far_ends, so_far_more}
 use Rattle.format_csv_records.proofs.Whole.{so_far_none}
 
+-- ---- the rest of a buffer
+
+-- what is unchanged from one offset on is unchanged from a later one on
+pub later_same : {A : Type 0} (end last more : ℕ) (now old : List A) → last ≡ end + more
+    → drop end now ≡ drop end old → drop last now ≡ drop last old
+later_same end last more now old sum e =
+    ap (λ n. drop n now) sum ∙ sym (drop-drop more end now) ∙ ap (λ l. drop more l) e
+    ∙ drop-drop more end old ∙ ap (λ n. drop n old) (sym sum)
+
+-- a store before an offset does not change what follows it
+pub stored_before : {A : Type 0} (at : ℕ) (now old : List A) (x : A)
+    → drop at now ≡ drop at old → drop (at + 1) (slice_set now at x) ≡ drop (at + 1) old
+stored_before at now old x e =
+    drop-set-lt (at + 1) now at x (omega arith) ∙ later_same at (at + 1) 1 now old refl e
+
+-- a byte of a run more is stored
+pub run_stored : (at n : ℕ) (now old : List ℕ) (x : ℕ) → drop (at + n) now ≡ drop (at + n) old
+    → drop (at + (n + 1)) (slice_set now (at + n) x) ≡ drop (at + (n + 1)) old
+run_stored at n now old x e =
+    let one : at + (n + 1) ≡ (at + n) + 1 = omega arith in
+    ap (λ k. drop k (slice_set now (at + n) x)) one ∙ stored_before (at + n) now old x e
+    ∙ ap (λ k. drop k old) (sym one)
+
 -- ---- bytes after bytes
 
 pub puts_none : (at : ℕ) (text : List ℕ) → Puts [] at text text at
@@ -26,6 +49,7 @@ puts_none at text = record {
   is_end = omega arith;
   same = refl;
   there = λ _. sym (append-nil (take at text));
+  behind = refl;
 }
 
 pub puts_more : (xs ys : List ℕ) (at end last : ℕ) (old now new : List ℕ) → Puts xs at old now end
@@ -37,6 +61,7 @@ puts_more xs ys at end last old now new it more = record {
       more.there (omega (arith, room, it.same))
       ∙ ap (λ l. l ++ ys) (it.there (omega (arith, room, more.is_end)))
       ∙ append_assoc (take at old) xs ys;
+  behind = more.behind ∙ later_same end last (length ys) now old more.is_end it.behind;
 }
 
 -- ---- a field in quotes
@@ -135,6 +160,8 @@ pub record Put {P : Type 0} (made : ℕ → ℕ → P) (fields : List (List ℕ)
   pub same : (length new ≡ length old) × (length after ≡ length before)
   pub text : end ≤ length old → take end new ≡ text_of fields
   pub places : count ≤ length before → take count after ≡ places_of made 0 fields
+  pub text_behind : drop end new ≡ drop end old
+  pub places_behind : drop count after ≡ drop count before
 
 pub record FieldsSoFar {P : Type 0} (made : ℕ → ℕ → P) (d : Dialect) (bytes rest old new : List ℕ)
     (before after : List P) (end count : ℕ) : Type 0 where
@@ -156,6 +183,8 @@ nothing_put made d bytes text places = record {
     same = (refl, refl);
     text = λ _. refl;
     places = λ _. refl;
+    text_behind = refl;
+    places_behind = refl;
   };
   less = omega arith;
   few = omega arith;
@@ -189,6 +218,10 @@ put_more made fields old now new before between after end count last it field pu
       ∙ ap (λ n. places_of made 0 fields ++ made end n ∷ []) size
       ∙ ap (λ o. places_of made 0 fields ++ made o (length field) ∷ []) from
       ∙ sym (places_more made 0 fields field);
+  text_behind =
+      puts.behind ∙ later_same end last (length field) now old puts.is_end it.text_behind;
+  places_behind =
+      placed.behind ∙ later_same count (count + 1) 1 between before refl it.places_behind;
 }
 
 ends_with : (ends : LineEnds) (bytes rest : List ℕ) → EndsHere ends bytes rest
@@ -251,30 +284,40 @@ module _ {P : Type 0} (made : ℕ → ℕ → P) (d : Dialect) (apart : IsApart 
         same = put.same;
         text = put.text;
         places = put.places;
+        text_behind = put.text_behind;
+        places_behind = put.places_behind;
       }
 
 -- ---- a record that was sized
 
-pub shows : {P : Type 0} (made : ℕ → ℕ → P) (d : Dialect) → IsApart d.delimiter d.quote
-    → (bytes old new : List ℕ) (before after : List P) (size found : RecordSize)
-    → IsSized d bytes size
-    → PutsFields made d bytes old new before after found → size.text ≤ length old
-    → size.fields ≤ length before
-    → ShowsFields made d bytes size (take size.text new) (take size.fields after)
-shows made d apart bytes old new before after size found (fields, it) put room many =
-    let (same, over) = fields_one d apart fields put.fields bytes (drop size.length bytes)
-    (drop found.length bytes) it.is_record.1 put.are in
-    let text : found.text ≡ size.text =
-    put.total ∙ ap (λ l. length (text_of l)) (sym same) ∙ sym it.total in
-    let count : found.fields ≡ size.fields =
-    put.count ∙ ap (λ l. length l) (sym same) ∙ sym it.count in (
-      fields,
-      it,
-      ap (λ n. take n new) (sym text) ∙ put.text (omega (arith, text, room))
-          ∙ ap (λ l. text_of l) (sym same),
-      ap (λ n. take n after) (sym count) ∙ put.places (omega (arith, count, many))
-          ∙ ap (λ l. places_of made 0 l) (sym same),
-    )
+module _ {P : Type 0} (made : ℕ → ℕ → P) (d : Dialect) (apart : IsApart d.delimiter d.quote)
+    (bytes old new : List ℕ) (before after : List P) (size found : RecordSize)
+    (sized : IsSized d bytes size) (put : PutsFields made d bytes old new before after found) where
+  same_fields : sized.0 ≡ put.fields
+  same_fields =
+      let (same, over) = fields_one d apart sized.0 put.fields bytes (drop size.length bytes)
+      (drop found.length bytes) sized.1.is_record.1 put.are in same
+
+  same_text : found.text ≡ size.text
+  same_text = put.total ∙ ap (λ l. length (text_of l)) (sym same_fields) ∙ sym sized.1.total
+
+  same_count : found.fields ≡ size.fields
+  same_count = put.count ∙ ap (λ l. length l) (sym same_fields) ∙ sym sized.1.count
+
+  pub shows : size.text ≤ length old → size.fields ≤ length before
+      → ShowsFields made d bytes size (take size.text new) (take size.fields after)
+  shows room many = (
+    sized.0,
+    sized.1,
+    ap (λ n. take n new) (sym same_text) ∙ put.text (omega (arith, same_text, room))
+        ∙ ap (λ l. text_of l) (sym same_fields),
+    ap (λ n. take n after) (sym same_count) ∙ put.places (omega (arith, same_count, many))
+        ∙ ap (λ l. places_of made 0 l) (sym same_fields),
+  )
+
+  pub behind : (drop size.text new ≡ drop size.text old)
+      × (drop size.fields after ≡ drop size.fields before)
+  behind = (rw same_text at put.text_behind, rw same_count at put.places_behind)
 
 -- ---- bytes of one kind, as far as there is room
 

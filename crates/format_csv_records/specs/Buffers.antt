@@ -58,24 +58,27 @@ ShowsFields made d bytes size text places = (fields : List (List ℕ)) × SizedA
 
 -- ---- what the parts do
 
--- `bytes` are written at offset `at` if there is room, and `end` is the offset after them.
+-- `bytes` are written at offset `at` if there is room, and `end` is the offset after them. The
+-- bytes from there on are unchanged.
 pub record Puts (bytes : List ℕ) (at : ℕ) (old new : List ℕ) (end : ℕ) : Type 0 where
   pub is_end : end ≡ at + length bytes
   pub same : length new ≡ length old
   pub there : end ≤ length old → take end new ≡ take at old ++ bytes
+  pub behind : drop end new ≡ drop end old
 
 -- A field is written at `at`, and at least as many bytes of the input are consumed.
 abbrev pub FieldPut : List ℕ → List ℕ → List ℕ → ℕ → List ℕ → List ℕ → ℕ → Type 0
 FieldPut field bytes rest at old new end =
     Puts field at old new end × (end + length rest ≤ at + length bytes)
 
--- A place is put at its number, if there is room for it.
+-- A place is put at its number, if there is room for it. Those after it are unchanged.
 pub record Placed {P : Type 0} (place : P) (number : ℕ) (old new : List P) : Type 0 where
   pub same : length new ≡ length old
   pub there : number < length old → take (number + 1) new ≡ take number old ++ place ∷ []
+  pub behind : drop (number + 1) new ≡ drop (number + 1) old
 
 -- The fields of the first record are written, as far as there is room, and `size` is the record's
--- size.
+-- size. The rest of both buffers is unchanged.
 pub record PutsFields {P : Type 0} (made : ℕ → ℕ → P) (d : Dialect) (bytes old new : List ℕ)
     (before after : List P) (size : RecordSize) : Type 0 where
   pub fields : List (List ℕ)
@@ -88,3 +91,5 @@ pub record PutsFields {P : Type 0} (made : ℕ → ℕ → P) (d : Dialect) (byt
   pub same : (length new ≡ length old) × (length after ≡ length before)
   pub text : size.text ≤ length old → take size.text new ≡ text_of fields
   pub places : size.fields ≤ length before → take size.fields after ≡ places_of made 0 fields
+  pub text_behind : drop size.text new ≡ drop size.text old
+  pub places_behind : drop size.fields after ≡ drop size.fields before

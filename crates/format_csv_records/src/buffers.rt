@@ -5,7 +5,7 @@
 //! writes its fields, if the buffers have room for them.
 
 ghost use Rattle.std.specs.Prelude.{◌≡◌, ◌⊎◌, ◌+◌, ◌<◌, ◌≤◌, ◌^◌, ◌∷◌, [], List, ℕ, length};
-ghost use Rattle.std.specs.Prelude.{take};
+ghost use Rattle.std.specs.Prelude.{drop, take, true};
 ghost use Rattle.std.specs.Prelude.{MatchBool, MatchOption, MatchResult};
 ghost use Rattle.format_csv_records.specs.Buffers.{FieldPut, IsSized, Placed, Puts, PutsFields};
 ghost use Rattle.format_csv_records.specs.Buffers.{ShowsFields, SizesRecord};
@@ -293,7 +293,8 @@ pub fn record_size(dialect: Dialect, bytes: &[u8]) -> Result<Option<RecordSize>,
 
 /// Writes the concatenated fields of the record at the start of the bytes to the start of `text`,
 /// and their positions to the first entries of `places`. The record's size gives the numbers of
-/// both. Returns `false` if one of the buffers is too small; both are then unchanged.
+/// both. The rest of both buffers is unchanged. Returns `false` if one of them is too small; both
+/// are then unchanged.
 ///
 /// ```
 /// use format_csv_records::buffers::{record_size, write_fields};
@@ -325,6 +326,10 @@ pub fn write_fields<P: FieldPlace>(
         × (text.new ≡ text.old) × (places.new ≡ places.old)) }
     ensures sizes { (length text.new ≡ length text.old)
         × (length places.new ≡ length places.old) }
+    ensures room { result ≡ true → (size.text ≤ length text.old)
+        × (size.fields ≤ length places.old) }
+    ensures behind { result ≡ true → (drop size.text text.new ≡ drop size.text text.old)
+        × (drop size.fields places.new ≡ drop size.fields places.old) }
 {
     if text.len() < size.text || places.len() < size.fields {
         return false;

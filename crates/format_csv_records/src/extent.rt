@@ -191,6 +191,7 @@ impl RecordExtent {
             → IsLed dialect self.old (drop self.old.passed bytes.now) self.new result }
         ensures short { length bytes.now < self.old.passed
             → (result ≡ Ok None) × (self.new ≡ self.old) }
+        ensures many { (IsFew self.old → ⊥) → (result ≡ Ok None) × (self.new ≡ self.old) }
     {
         match bytes.get(self.passed..) {
             None => Ok(None),

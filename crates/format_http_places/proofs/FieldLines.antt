@@ -1,8 +1,8 @@
 -- The fields of a head that are read, and those so far.
 use Rattle.std.proofs.Common.{◌≡◌, ◌∙◌, ◌<◌, ◌≤◌, ◌+◌, ◌++◌, ◌∷◌, [], ap, ℕ, List}
-use Rattle.std.proofs.Common.{append_assoc, arith, length, refl, slice_set, subst, sym, take}
+use Rattle.std.proofs.Common.{append_assoc, arith, drop, length, refl, slice_set, subst, sym, take}
 use Rattle.std.proofs.Common.{length-append}
-use Rattle.std.proofs.lemmas.List.{take_more_set}
+use Rattle.std.proofs.lemmas.List.{drop-drop, take_more_set}
 use Rattle.format_http.specs.Heads.Bytes.{line_end}
 use Rattle.format_http.specs.Heads.FieldLine.{IsFieldLine}
 use Rattle.format_http.specs.Heads.Head.{AreFieldLines, Pair}
@@ -83,6 +83,14 @@ so_far_more {bytes = bytes} {rest = rest} {places = places} {count = count} {fou
           size));
       small = omega (arith, it.small, line_less shows.is_line);
     }
+
+-- the entries after those so far are unchanged
+pub behind_more : (places others old : List Field) (count : ℕ)
+    → drop count places ≡ drop count old
+    → drop (count + 1) others ≡ drop (count + 1) places
+    → drop (count + 1) others ≡ drop (count + 1) old
+behind_more places others old count kept e =
+    e ∙ sym (drop-drop 1 count places) ∙ ap (λ l. drop 1 l) kept ∙ drop-drop 1 count old
 
 -- the fields read, once the empty line is there
 pub so_far_ends : {whole : ℕ} {bytes rest end left : List ℕ} {places : List Field} {count : ℕ}

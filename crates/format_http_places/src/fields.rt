@@ -1,6 +1,7 @@
 //! The fields of a head, of a request and of a response.
 
-ghost use Rattle.std.specs.Prelude.{◌≡◌, ◌≤◌, ◌<◌, MatchResult, length, slice_set};
+ghost use Rattle.std.specs.Prelude.{◌≡◌, ◌≤◌, ◌<◌, ◌+◌, IfOk, MatchResult, drop, length};
+ghost use Rattle.std.specs.Prelude.{slice_set};
 ghost use Rattle.format_http_places.specs.Grammar.{FieldsText, Stops};
 ghost use Rattle.format_http_places.specs.Places.{ShowsFields};
 
@@ -20,6 +21,7 @@ pub(crate) struct Fields<'i> {
 fn write(fields: &mut [Field], number: usize, field: Field)
     ensures put { number < length fields.old → fields.new ≡ slice_set fields.old number field }
     ensures same { length fields.new ≡ length fields.old }
+    ensures behind { drop (number + 1) fields.new ≡ drop (number + 1) fields.old }
 {
     if number < fields.len() {
         fields[number] = field;
@@ -35,9 +37,11 @@ pub(crate) fn read_fields<'i>(
     fields: &mut [Field],
 ) -> Result<Fields<'i>, Stop>
     requires { length bytes.now ≤ whole }
-    ensures { MatchResult result
+    ensures found { MatchResult result
         (λ found. ShowsFields whole bytes.now found.count fields.new found.rest.now)
         (λ stop. Stops FieldsText bytes.now stop.left) }
+    ensures behind { IfOk result
+        (λ found. drop found.count fields.new ≡ drop found.count fields.old) }
 {
     let mut rest = bytes;
     let mut count = 0;

@@ -4,7 +4,7 @@
 //! values are examined sixteen bytes at a time. These are loops over bytes instead of parsers of
 //! the library.
 
-ghost use Rattle.std.specs.Prelude.{MatchResult};
+ghost use Rattle.std.specs.Prelude.{◌≡◌, ◌≤◌, IfOk, MatchResult, drop, length};
 ghost use Rattle.format_http_places.specs.Extents.{IsErrorOf};
 ghost use Rattle.format_http_places.specs.Grammar.{HeadText, Stops};
 ghost use Rattle.format_http_places.specs.Refusals.{ReadsHead, ReadsParts};
@@ -69,8 +69,10 @@ pub(crate) fn error_at(kind: HeadKind, bytes: &[u8], stop: Stop) -> HeadError
 /// stack.
 #[inline(never)]
 fn read_parts(bytes: &[u8], fields: &mut [Field]) -> Result<Head, Stop>
-    ensures { MatchResult result (λ head. ReadsParts bytes.now head fields.new)
+    ensures parts { MatchResult result (λ head. ReadsParts bytes.now head fields.new)
         (λ stop. Stops HeadText bytes.now stop.left) }
+    ensures behind { IfOk result
+        (λ head. drop head.fields fields.new ≡ drop head.fields fields.old) }
 {
     let line = read_request_line(bytes)?;
     let found = read_fields(bytes.len(), line.rest, fields)?;
@@ -99,7 +101,7 @@ fn read_parts(bytes: &[u8], fields: &mut [Field]) -> Result<Head, Stop>
 /// - [`TooManyFields`](HeadError::TooManyFields) holds the required number of entries.
 ///
 /// After an error any entry may have been overwritten, since the fields are written as they are
-/// read.
+/// read. Otherwise the entries after those of the fields are unchanged.
 ///
 /// No empty line is skipped before the request line: a server that is lenient as in section 2.2
 /// must skip one itself.
@@ -121,7 +123,10 @@ fn read_parts(bytes: &[u8], fields: &mut [Field]) -> Result<Head, Stop>
 /// assert!(rt; head == Err(HeadError::Invalid(Invalid { place: 5, part: HeadPart::Target })));
 /// ```
 pub fn read_head_into(bytes: &[u8], fields: &mut [Field]) -> Result<Head, HeadError>
-    ensures { ReadsHead bytes.now result fields.new }
+    ensures read { ReadsHead bytes.now result fields.new }
+    ensures room { IfOk result (λ head. head.fields ≤ length fields.old) }
+    ensures behind { IfOk result
+        (λ head. drop head.fields fields.new ≡ drop head.fields fields.old) }
 {
     match read_parts(bytes, fields) {
         Ok(head) => {

@@ -1,7 +1,7 @@
 //! Heads of responses, complete and partial, read into entries of the caller, by the same lanes,
 //! field lines and errors as those of requests.
 
-ghost use Rattle.std.specs.Prelude.{MatchResult};
+ghost use Rattle.std.specs.Prelude.{◌≡◌, ◌≤◌, IfOk, MatchResult, drop, length};
 ghost use Rattle.format_http_places.specs.Grammar.{ResponseText, Stops};
 ghost use Rattle.format_http_places.specs.Responses.{ReadsResponse, ReadsResponseParts};
 
@@ -16,8 +16,10 @@ use crate::stop::Stop;
 /// inlined, as `read_parts` of requests.
 #[inline(never)]
 fn read_response_parts(bytes: &[u8], fields: &mut [Field]) -> Result<ResponseHead, Stop>
-    ensures { MatchResult result (λ head. ReadsResponseParts bytes.now head fields.new)
+    ensures parts { MatchResult result (λ head. ReadsResponseParts bytes.now head fields.new)
         (λ stop. Stops ResponseText bytes.now stop.left) }
+    ensures behind { IfOk result
+        (λ head. drop head.fields fields.new ≡ drop head.fields fields.old) }
 {
     let line = read_status_line(bytes)?;
     let found = read_fields(bytes.len(), line.rest, fields)?;
@@ -70,7 +72,10 @@ pub fn read_response_head_into(
     bytes: &[u8],
     fields: &mut [Field],
 ) -> Result<ResponseHead, HeadError>
-    ensures { ReadsResponse bytes.now result fields.new }
+    ensures read { ReadsResponse bytes.now result fields.new }
+    ensures room { IfOk result (λ head. head.fields ≤ length fields.old) }
+    ensures behind { IfOk result
+        (λ head. drop head.fields fields.new ≡ drop head.fields fields.old) }
 {
     match read_response_parts(bytes, fields) {
         Ok(head) => {

@@ -1,6 +1,8 @@
 -- The contents of a text after more was appended to it.
-use Rattle.std.specs.Prelude.{◌≡◌, ℕ, List, ◌++◌, encode_utf8_all}
+use Rattle.std.specs.Prelude.{◌≡◌, ◌<◌, ◌+◌, ℕ, List, ◌++◌, encode_utf8_all, length}
+use Rattle.std.specs.Prelude.{string_capacity, string_len}
 use Rattle.std.specs.Str.{chars}
+use Rattle.std.specs.declared.string.String.{String}
 use Rattle.format_json_texts.specs.Number.{NumberText}
 use Rattle.format_parts.specs.Words.{Slice}
 use Rattle.grammars.specs.Texts.{Text}
@@ -20,3 +22,7 @@ pub record Adds {O : Type 0} (text : Text ℕ O) (o : O) (before after : List �
 abbrev pub PutsNumber : List ℕ → List ℕ → List ℕ → Type 0
 PutsNumber text before after =
     ((slice : Slice) × NumberText slice (chars text)) × (after ≡ before ++ text)
+
+-- `LacksRoom text more`: `text` must grow before these bytes are appended.
+abbrev pub LacksRoom : {B : Type 0} → String B → List ℕ → Type 0
+LacksRoom text more = string_capacity text < string_len text + length more

@@ -1,6 +1,6 @@
 -- The encoding that is written for a value: with the whitespace of a layout, and with strings
 -- escaped as specified in RFC 8785 (section 3.2.2.2).
-use Rattle.std.specs.Prelude.{◌+◌, ◌++◌, ℕ, zero, suc, List, [], ◌∷◌, replicate}
+use Rattle.std.specs.Prelude.{◌+◌, ◌^◌, ◌≤◌, ◌++◌, ℕ, zero, suc, List, [], ◌∷◌, replicate}
 use Rattle.std.specs.declared.string.String.{String}
 use Rattle.std.specs.declared.vec.Vec.{Vec}
 use Rattle.format_json_texts.specs.Number.{NumberText}
@@ -31,6 +31,11 @@ space_of (layouts.Lines now step) = 32 ∷ []
 abbrev pub deeper_of : Layout → Layout
 deeper_of layouts.Compact = layouts.Compact
 deeper_of (layouts.Lines now step) = layouts.Lines (now + step) step
+
+-- the contents are indented by more spaces than `usize` can count
+abbrev pub IsTooWide : Layout → Type 0
+IsTooWide layouts.Compact = ⊥
+IsTooWide (layouts.Lines now step) = 2 ^ 64 ≤ now + step
 
 -- the whitespace of lines where the list has items; none where it is empty
 abbrev pub line_in : {O : Type 0} → List O → Layout → List ℕ

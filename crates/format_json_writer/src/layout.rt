@@ -1,8 +1,9 @@
 //! The whitespace between the parts of a text.
-ghost use Rattle.format_json_writer.specs.Added.{Keeps};
-ghost use Rattle.format_json_writer.specs.Layout.{deeper_of, line_in, line_of, space_of};
+ghost use Rattle.format_json_writer.specs.Added.{Keeps, LacksRoom};
+ghost use Rattle.format_json_writer.specs.Layout.{IsTooWide, deeper_of, line_in, line_of, space_of};
 ghost use Rattle.format_json_writer.specs.declared.error.WriteError.TheVariants.{Memory};
-ghost use Rattle.std.specs.Prelude.{◌≡◌, ◌++◌, IfErr, IfOk, OnOk, string_bytes};
+ghost use Rattle.std.specs.Prelude.{◌≡◌, ◌≤◌, ◌++◌, IfErr, IfOk, OnErr, OnOk, string_bytes};
+ghost use Rattle.std.specs.Prelude.{string_capacity};
 
 use crate::error::WriteError;
 use std::alloc::{AllocError, Allocator};
@@ -40,6 +41,7 @@ pub enum Layout {
 pub fn deeper(layout: Layout) -> Result<Layout, WriteError>
     ensures deeper { IfOk result (λ inner. inner ≡ deeper_of layout) }
     ensures memory { IfErr result (λ e. e ≡ Memory) }
+    ensures full { OnErr result (IsTooWide layout) }
 {
     match layout {
         Layout::Compact => Ok(Layout::Compact),
@@ -55,6 +57,8 @@ pub fn put_line<B: Allocator>(layout: Layout, into: &mut String<B>) -> Result<()
     ensures written { OnOk result
         (string_bytes into.new ≡ string_bytes into.old ++ line_of layout) }
     ensures kept { Keeps (string_bytes into.old) (string_bytes into.new) }
+    ensures capacity { string_capacity into.old ≤ string_capacity into.new }
+    ensures full { OnErr result (LacksRoom into.old (line_of layout)) }
 {
     match layout {
         Layout::Compact => Ok(()),
@@ -77,6 +81,8 @@ pub fn put_line_in<T, B: Allocator>(
     ensures written { OnOk result (string_bytes into.new
         ≡ string_bytes into.old ++ line_in items.now layout) }
     ensures kept { Keeps (string_bytes into.old) (string_bytes into.new) }
+    ensures capacity { string_capacity into.old ≤ string_capacity into.new }
+    ensures full { OnErr result (LacksRoom into.old (line_in items.now layout)) }
 {
     match items.split_first() {
         Some(_) => put_line(layout, into),
@@ -89,6 +95,8 @@ pub fn put_space<B: Allocator>(layout: Layout, into: &mut String<B>) -> Result<(
     ensures written { OnOk result (string_bytes into.new
         ≡ string_bytes into.old ++ space_of layout) }
     ensures kept { Keeps (string_bytes into.old) (string_bytes into.new) }
+    ensures capacity { string_capacity into.old ≤ string_capacity into.new }
+    ensures full { OnErr result (LacksRoom into.old (space_of layout)) }
 {
     match layout {
         Layout::Compact => Ok(()),

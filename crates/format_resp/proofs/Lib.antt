@@ -13,10 +13,12 @@ pub mod Made
 pub mod MustAsk
 pub mod NumberTexts
 pub mod PartsStand
+pub mod OnlyTexts
 pub mod Passing
 pub mod PieceResults
 pub mod ReadBack
 pub mod Refusals
+pub mod Rooms
 pub mod Strings
 pub mod Within
 pub mod Writing

@@ -1,5 +1,6 @@
 -- What is written for a command, and which replies are not written.
-use Rattle.std.specs.Prelude.{◌≡◌, ◌⊎◌, ⊤, ℕ, zero, suc, List, [], ◌∷◌, ◌++◌, length, Contains}
+use Rattle.std.specs.Prelude.{◌≡◌, ◌⊎◌, ◌<◌, ◌+◌, ⊤, ℕ, zero, suc, List, [], ◌∷◌, ◌++◌, length}
+use Rattle.std.specs.Prelude.{Contains, vec_capacity, vec_len}
 use Rattle.std.specs.Borrow.{Bor}
 use Rattle.std.specs.Fmt.{decimal}
 use Rattle.std.specs.List.{AllByRecursion}
@@ -120,3 +121,22 @@ module _ {A : Type 0} (protocol : Protocol) where
 -- out of memory, or this error, if `P` does not hold
 abbrev pub IsRefusedAs : WriteError → Type 0 → WriteError → Type 0
 IsRefusedAs error P e = (e ≡ OutOfMemory) ⊎ ((e ≡ error) × (P → ⊥))
+
+-- ---- when writing is out of memory
+
+-- `LacksRoom into more`: `into` must grow before these bytes are appended.
+abbrev pub LacksRoom : {B : Type 0} → Vec ℕ B → List ℕ → Type 0
+LacksRoom into more = vec_capacity into < vec_len into + length more
+
+-- out of memory only if there is no room for these bytes
+abbrev pub IsFullFor : {B : Type 0} → Vec ℕ B → List ℕ → WriteError → Type 0
+IsFullFor into more e = e ≡ OutOfMemory → LacksRoom into more
+
+-- out of memory only if `P` holds, and there is no room for these bytes
+abbrev pub IsFullWith : {B : Type 0} → Type 0 → Vec ℕ B → List ℕ → WriteError → Type 0
+IsFullWith P into more e = e ≡ OutOfMemory → P × LacksRoom into more
+
+-- out of memory only if there is no room for an encoding of the value
+abbrev pub IsFullForEach : {O B : Type 0} → Text ℕ O → O → Vec ℕ B → WriteError → Type 0
+IsFullForEach text o into e =
+    e ≡ OutOfMemory → (tokens : List ℕ) → text o tokens → LacksRoom into tokens

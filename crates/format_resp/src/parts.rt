@@ -1,9 +1,10 @@
 //! The parts of replies as bytes.
 ghost use Rattle.format_resp.specs.Resp.{InLine};
-ghost use Rattle.format_resp.specs.Written.{Keeps, data_of, marked};
+ghost use Rattle.format_resp.specs.Written.{Keeps, LacksRoom, data_of, marked};
 ghost use Rattle.std.specs.Fmt.{decimal, signed_decimal};
 ghost use Rattle.std.specs.List.{AllByRecursion};
-ghost use Rattle.std.specs.Prelude.{◌≡◌, ◌++◌, ◌∷◌, [], MatchBool, OnErr, OnOk};
+ghost use Rattle.std.specs.Prelude.{◌≡◌, ◌≤◌, ◌++◌, ◌∷◌, [], MatchBool, OnErr, OnOk};
+ghost use Rattle.std.specs.Prelude.{vec_capacity};
 
 use memchr::memchr2;
 use std::alloc::{AllocError, Allocator};
@@ -12,6 +13,8 @@ use std::alloc::{AllocError, Allocator};
 fn put<B: Allocator>(byte: u8, into: &mut Vec<u8, B>) -> Result<(), AllocError>
     ensures written { OnOk result (into.new.items ≡ into.old.items ++ byte ∷ []) }
     ensures kept { OnErr result (into.new.items ≡ into.old.items) }
+    ensures capacity { vec_capacity into.old ≤ vec_capacity into.new }
+    ensures full { OnErr result (LacksRoom into.old (byte ∷ [])) }
 {
     match into.push(byte) {
         Ok(()) => Ok(()),
@@ -39,6 +42,8 @@ pub fn write_line<B: Allocator>(
 ) -> Result<(), AllocError>
     ensures written { OnOk result (into.new.items ≡ into.old.items ++ marked mark line.now) }
     ensures kept { Keeps into.old.items into.new.items }
+    ensures capacity { vec_capacity into.old ≤ vec_capacity into.new }
+    ensures full { OnErr result (LacksRoom into.old (marked mark line.now)) }
 {
     put(mark, into)?;
     into.extend_from_slice(line)?;
@@ -50,6 +55,8 @@ pub fn write_line<B: Allocator>(
 fn write_digits<B: Allocator>(number: u64, into: &mut Vec<u8, B>) -> Result<(), AllocError>
     ensures written { OnOk result (into.new.items ≡ into.old.items ++ decimal number) }
     ensures kept { Keeps into.old.items into.new.items }
+    ensures capacity { vec_capacity into.old ≤ vec_capacity into.new }
+    ensures full { OnErr result (LacksRoom into.old (decimal number)) }
 {
     if number < 10 {
         put(b'0' + number as u8, into)?;
@@ -64,6 +71,8 @@ fn write_digits<B: Allocator>(number: u64, into: &mut Vec<u8, B>) -> Result<(), 
 fn write_signed<B: Allocator>(number: i64, into: &mut Vec<u8, B>) -> Result<(), AllocError>
     ensures written { OnOk result (into.new.items ≡ into.old.items ++ signed_decimal number) }
     ensures kept { Keeps into.old.items into.new.items }
+    ensures capacity { vec_capacity into.old ≤ vec_capacity into.new }
+    ensures full { OnErr result (LacksRoom into.old (signed_decimal number)) }
 {
     if number >= 0 {
         return write_digits(number.unsigned_abs(), into);
@@ -88,6 +97,8 @@ pub fn write_size<B: Allocator>(
 ) -> Result<(), AllocError>
     ensures written { OnOk result (into.new.items ≡ into.old.items ++ marked mark (decimal size)) }
     ensures kept { Keeps into.old.items into.new.items }
+    ensures capacity { vec_capacity into.old ≤ vec_capacity into.new }
+    ensures full { OnErr result (LacksRoom into.old (marked mark (decimal size))) }
 {
     put(mark, into)?;
     write_digits(size as u64, into)?;
@@ -108,6 +119,8 @@ pub fn write_integer<B: Allocator>(number: i64, into: &mut Vec<u8, B>) -> Result
     ensures written { OnOk result
         (into.new.items ≡ into.old.items ++ marked 58 (signed_decimal number)) }
     ensures kept { Keeps into.old.items into.new.items }
+    ensures capacity { vec_capacity into.old ≤ vec_capacity into.new }
+    ensures full { OnErr result (LacksRoom into.old (marked 58 (signed_decimal number))) }
 {
     put(b':', into)?;
     write_signed(number, into)?;
@@ -132,6 +145,8 @@ pub fn write_data<B: Allocator>(
 ) -> Result<(), AllocError>
     ensures written { OnOk result (into.new.items ≡ into.old.items ++ data_of mark bytes.now) }
     ensures kept { Keeps into.old.items into.new.items }
+    ensures capacity { vec_capacity into.old ≤ vec_capacity into.new }
+    ensures full { OnErr result (LacksRoom into.old (data_of mark bytes.now)) }
 {
     write_size(mark, bytes.len(), into)?;
     into.extend_from_slice(bytes)?;

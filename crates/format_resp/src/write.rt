@@ -1,12 +1,14 @@
 //! Replies and commands as bytes.
 ghost use Rattle.std.specs.List.{AllByRecursion};
-ghost use Rattle.std.specs.Prelude.{◌≡◌, ◌⊎◌, ◌++◌, [], IfErr, MatchBool, OnErr, OnOk};
+ghost use Rattle.std.specs.Prelude.{◌≡◌, ◌≤◌, ◌⊎◌, ◌++◌, [], IfErr, MatchBool, OnErr, OnOk};
+ghost use Rattle.std.specs.Prelude.{vec_capacity};
 ghost use Rattle.grammars.specs.Texts.{EachText};
 ghost use Rattle.format_resp.specs.Numbers.{IsBigNumber, IsDouble};
 ghost use Rattle.format_resp.specs.Resp.{BooleanText, InLine, IsIn, IsVerbatim, ReplyText};
 ghost use Rattle.format_resp.specs.Resp.{WrittenText, first_mark, gathered};
-ghost use Rattle.format_resp.specs.Written.{Adds, IsForeign, IsRefused, IsRefusedAmong};
-ghost use Rattle.format_resp.specs.Written.{IsRefusedAs};
+ghost use Rattle.format_resp.specs.Written.{Adds, IsForeign, IsFullFor, IsFullForEach};
+ghost use Rattle.format_resp.specs.Written.{IsFullWith, IsRefused, IsRefusedAmong, IsRefusedAs};
+ghost use Rattle.format_resp.specs.Written.{LacksRoom};
 ghost use Rattle.format_resp.specs.Written.{Keeps, bulks_of, command_of, data_of, marked};
 ghost use Rattle.format_resp.specs.declared.marks.Mark.TheVariants.{Aggregate};
 ghost use Rattle.format_resp.specs.declared.write.WriteError.TheVariants as errors;
@@ -67,6 +69,9 @@ fn write_text<B: Allocator>(mark: u8, text: &[u8], into: &mut Vec<u8, B>) -> Res
     ensures refused { IfErr result (IsRefusedAs errors.LineBreak
         (AllByRecursion InLine text.now)) }
     ensures kept { Keeps into.old.items into.new.items }
+    ensures capacity { vec_capacity into.old ≤ vec_capacity into.new }
+    ensures full { IfErr result (IsFullWith (AllByRecursion InLine text.now) into.old
+        (marked mark text.now)) }
 {
     if !is_line(text) {
         return Err(WriteError::LineBreak);
@@ -88,6 +93,8 @@ fn write_double<B: Allocator>(text: &[u8], into: &mut Vec<u8, B>) -> Result<(), 
         × (into.new.items ≡ into.old.items ++ marked 44 text.now)) }
     ensures refused { IfErr result (IsRefusedAs errors.Double (IsDouble text.now)) }
     ensures kept { Keeps into.old.items into.new.items }
+    ensures capacity { vec_capacity into.old ≤ vec_capacity into.new }
+    ensures full { IfErr result (IsFullWith (IsDouble text.now) into.old (marked 44 text.now)) }
 {
     if !is_double(text) {
         return Err(WriteError::Double);
@@ -102,6 +109,8 @@ fn write_big_number<B: Allocator>(text: &[u8], into: &mut Vec<u8, B>) -> Result<
         × (into.new.items ≡ into.old.items ++ marked 40 text.now)) }
     ensures refused { IfErr result (IsRefusedAs errors.BigNumber (IsBigNumber text.now)) }
     ensures kept { Keeps into.old.items into.new.items }
+    ensures capacity { vec_capacity into.old ≤ vec_capacity into.new }
+    ensures full { IfErr result (IsFullWith (IsBigNumber text.now) into.old (marked 40 text.now)) }
 {
     if !is_big_number(text) {
         return Err(WriteError::BigNumber);
@@ -116,6 +125,9 @@ fn write_verbatim<B: Allocator>(bytes: &[u8], into: &mut Vec<u8, B>) -> Result<(
         × (into.new.items ≡ into.old.items ++ data_of 61 bytes.now)) }
     ensures refused { IfErr result (IsRefusedAs errors.Format (IsVerbatim bytes.now)) }
     ensures kept { Keeps into.old.items into.new.items }
+    ensures capacity { vec_capacity into.old ≤ vec_capacity into.new }
+    ensures full { IfErr result
+        (IsFullWith (IsVerbatim bytes.now) into.old (data_of 61 bytes.now)) }
 {
     if !is_verbatim(bytes) {
         return Err(WriteError::Format);
@@ -174,6 +186,9 @@ fn write_elements<A: Allocator, B: Allocator>(
         into.new.items) }
     ensures refused { IfErr result (IsRefusedAmong protocol level replies.now) }
     ensures kept { Keeps into.old.items into.new.items }
+    ensures capacity { vec_capacity into.old ≤ vec_capacity into.new }
+    ensures full { IfErr result (IsFullForEach (EachText (WrittenText protocol level)) replies.now
+        into.old) }
 {
     for reply in replies {
         write_nested(protocol, level, reply, into)?;
@@ -195,6 +210,9 @@ fn write_list<A: Allocator, B: Allocator>(
         into.old.items into.new.items) }
     ensures refused { IfErr result (IsRefused protocol level (gathered mark replies.now)) }
     ensures kept { Keeps into.old.items into.new.items }
+    ensures capacity { vec_capacity into.old ≤ vec_capacity into.new }
+    ensures full { IfErr result (IsFullForEach (WrittenText protocol level)
+        (gathered mark replies.now) into.old) }
 {
     if level == 0 {
         return Err(WriteError::Level);
@@ -220,6 +238,8 @@ fn write_nested<A: Allocator, B: Allocator>(
         into.new.items) }
     ensures refused { IfErr result (IsRefused protocol level reply.now) }
     ensures kept { Keeps into.old.items into.new.items }
+    ensures capacity { vec_capacity into.old ≤ vec_capacity into.new }
+    ensures full { IfErr result (IsFullForEach (WrittenText protocol level) reply.now into.old) }
 {
     if is_foreign(protocol, reply) {
         return Err(WriteError::Foreign);
@@ -265,7 +285,8 @@ fn write_nested<A: Allocator, B: Allocator>(
 /// After an error the buffer is unchanged. If several errors apply, it may be any of them.
 ///
 /// - `Level`: the aggregates are nested deeper than `level`.
-/// - `OutOfMemory`: memory allocation failed.
+/// - `OutOfMemory`: the buffer has no room for the encoding, and could not grow. If the reply has
+///   no encoding, this may be returned in any case.
 /// - Any other error is caused by a reply in it, which has no encoding in this version at any
 ///   depth.
 ///
@@ -295,6 +316,7 @@ pub fn write_reply<A: Allocator, B: Allocator>(
         (Adds (ReplyText protocol level) reply.now into.old.items into.new.items) }
     ensures refused { IfErr result (IsRefused protocol level reply.now) }
     ensures kept { OnErr result (into.new.items ≡ into.old.items) }
+    ensures full { IfErr result (IsFullForEach (WrittenText protocol level) reply.now into.old) }
 {
     let before = into.len();
     match write_nested(protocol, level, reply, into) {
@@ -310,6 +332,8 @@ pub fn write_reply<A: Allocator, B: Allocator>(
 fn write_bulks<B: Allocator>(parts: &[&[u8]], into: &mut Vec<u8, B>) -> Result<(), AllocError>
     ensures written { OnOk result (into.new.items ≡ into.old.items ++ bulks_of parts.now) }
     ensures kept { Keeps into.old.items into.new.items }
+    ensures capacity { vec_capacity into.old ≤ vec_capacity into.new }
+    ensures full { OnErr result (LacksRoom into.old (bulks_of parts.now)) }
 {
     for part in parts {
         write_data(b'$', part, into)?;
@@ -321,6 +345,8 @@ fn write_bulks<B: Allocator>(parts: &[&[u8]], into: &mut Vec<u8, B>) -> Result<(
 fn write_parts<B: Allocator>(parts: &[&[u8]], into: &mut Vec<u8, B>) -> Result<(), AllocError>
     ensures written { OnOk result (into.new.items ≡ into.old.items ++ command_of parts.now) }
     ensures kept { Keeps into.old.items into.new.items }
+    ensures capacity { vec_capacity into.old ≤ vec_capacity into.new }
+    ensures full { OnErr result (LacksRoom into.old (command_of parts.now)) }
 {
     write_size(b'*', parts.len(), into)?;
     write_bulks(parts, into)
@@ -333,7 +359,7 @@ fn write_parts<B: Allocator>(parts: &[&[u8]], into: &mut Vec<u8, B>) -> Result<(
 /// After an error the buffer is unchanged.
 ///
 /// - `NoParts`: there is not even a name. A server does not respond to an empty array.
-/// - `OutOfMemory`: memory allocation failed.
+/// - `OutOfMemory`: the buffer has no room for the command, and could not grow.
 ///
 /// ```
 /// use format_resp::write::write_command;
@@ -349,6 +375,7 @@ pub fn write_command<B: Allocator>(parts: &[&[u8]], into: &mut Vec<u8, B>) -> Re
     ensures refused { IfErr result (λ e. (e ≡ errors.OutOfMemory)
         ⊎ ((e ≡ errors.NoParts) × (parts.now ≡ []))) }
     ensures kept { OnErr result (into.new.items ≡ into.old.items) }
+    ensures full { IfErr result (IsFullFor into.old (command_of parts.now)) }
 {
     if parts.is_empty() {
         return Err(WriteError::NoParts);

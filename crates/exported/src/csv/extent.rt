@@ -1,6 +1,6 @@
 //! The end of a record of comma-separated values in partial input.
 
-ghost use Rattle.std.specs.Prelude.{◌≡◌, ◌⊎◌, ◌↔◌, ◌++◌, [], List, ℕ};
+ghost use Rattle.std.specs.Prelude.{◌≡◌, ◌≤◌, ◌⊎◌, ◌↔◌, ◌++◌, [], List, length, ℕ};
 ghost use Rattle.format_csv_records.specs.Extents.{IsOf};
 ghost use Rattle.format_csv_records.specs.declared.dialect.Dialect.{Dialect};
 ghost use Rattle.exported.specs.Code.{done, incomplete, invalid, invalid_dialect};
@@ -90,6 +90,8 @@ fn find_end(dialect: Dialect, state: &mut CsvRecordState, bytes: &[u8], out: &mu
         → TellsRecord dialect bytes.now result out.new state.new }
     ensures nowhere { (result ≡ invalid → ⊥) → out.new.error_offset ≡ 0 }
     ensures sizes { (result ≡ done → ⊥) → HasNoSizes out.new }
+    ensures within { (out.new.length ≤ length bytes.now)
+        × (out.new.error_offset ≤ length bytes.now) }
     ensures codes { (result ≡ done) ⊎ ((result ≡ incomplete) ⊎ (result ≡ invalid)) }
 {
     let mut extent = extent_at(*state);
@@ -166,6 +168,8 @@ pub extern "C" fn exported_csv_record_extent(
     ensures kept { result ≡ invalid_dialect → state.new ≡ state.old }
     ensures nowhere { (result ≡ invalid → ⊥) → out.new.error_offset ≡ 0 }
     ensures sizes { (result ≡ done → ⊥) → HasNoSizes out.new }
+    ensures within { (out.new.length ≤ length bytes.now)
+        × (out.new.error_offset ≤ length bytes.now) }
     ensures codes { (result ≡ done) ⊎ ((result ≡ incomplete) ⊎ ((result ≡ invalid)
         ⊎ (result ≡ invalid_dialect))) }
 {

@@ -1,6 +1,6 @@
 //! The ends of heads in partial input.
 
-ghost use Rattle.std.specs.Prelude.{◌≡◌, ◌⊎◌, ◌++◌, [], List, ℕ};
+ghost use Rattle.std.specs.Prelude.{◌≡◌, ◌≤◌, ◌⊎◌, ◌++◌, [], List, length, ℕ};
 ghost use Rattle.format_http_places.specs.Extents.{IsOf};
 ghost use Rattle.exported.specs.Code.{done, incomplete, invalid};
 ghost use Rattle.exported.specs.HttpExtent.{HeadCalls, TellsHead, head_extent_of, nothing};
@@ -131,6 +131,7 @@ fn find_end(kind: HeadKind, state: &mut HttpHeadState, bytes: &[u8], out: &mut u
     ensures told { IsOf kind (head_extent_of kind state.old) bytes.now
         → TellsHead kind bytes.now result out.new state.new }
     ensures none { result ≡ incomplete → out.new ≡ 0 }
+    ensures within { out.new ≤ length bytes.now }
     ensures codes { (result ≡ done) ⊎ ((result ≡ incomplete) ⊎ (result ≡ invalid)) }
 {
     let mut extent = extent_at(kind, *state);
@@ -188,6 +189,7 @@ pub extern "C" fn exported_http_head_extent(
     ensures told { IsOf HeadKind.Request (head_extent_of HeadKind.Request state.old) bytes.now
         → TellsHead HeadKind.Request bytes.now result out.new state.new }
     ensures none { result ≡ incomplete → out.new ≡ 0 }
+    ensures within { out.new ≤ length bytes.now }
     ensures codes { (result ≡ done) ⊎ ((result ≡ incomplete) ⊎ (result ≡ invalid)) }
 {
     find_end(HeadKind::Request, state, bytes, out)
@@ -228,6 +230,7 @@ pub extern "C" fn exported_http_response_head_extent(
     ensures told { IsOf HeadKind.Response (head_extent_of HeadKind.Response state.old) bytes.now
         → TellsHead HeadKind.Response bytes.now result out.new state.new }
     ensures none { result ≡ incomplete → out.new ≡ 0 }
+    ensures within { out.new ≤ length bytes.now }
     ensures codes { (result ≡ done) ⊎ ((result ≡ incomplete) ⊎ (result ≡ invalid)) }
 {
     find_end(HeadKind::Response, state, bytes, out)

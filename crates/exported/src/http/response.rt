@@ -1,6 +1,6 @@
 //! The heads of responses.
 
-ghost use Rattle.std.specs.Prelude.{◌≡◌, ◌⊎◌, ◌<◌, length, take};
+ghost use Rattle.std.specs.Prelude.{◌≡◌, ◌⊎◌, ◌≤◌, ◌<◌, drop, length, take};
 ghost use Rattle.format_http.specs.Responses.Head.{BeginsResponseHead, NoResponseHead};
 ghost use Rattle.format_http_places.specs.Responses.{IsResponseRefused, IsResponseWanted};
 ghost use Rattle.format_http_places.specs.Responses.{NoResponseRead, ShowsResponse};
@@ -111,6 +111,9 @@ pub extern "C" fn exported_http_response_head(
 ) -> u32
     ensures head { result ≡ done
         → ShowsResponse bytes.now (response_of out.new) (take out.new.fields fields.new) }
+    ensures room { result ≡ done → out.new.fields ≤ length fields.old }
+    ensures behind { result ≡ done
+        → drop out.new.fields fields.new ≡ drop out.new.fields fields.old }
     ensures small { result ≡ buffer_too_small → IsResponseWanted bytes.now out.new.fields
         × (length fields.old < out.new.fields) }
     ensures refused { result ≡ invalid → NoResponseRead bytes.now }
@@ -172,6 +175,9 @@ pub extern "C" fn exported_http_response_head_partial(
 ) -> u32
     ensures head { result ≡ done
         → ShowsResponse bytes.now (response_of out.new) (take out.new.fields fields.new) }
+    ensures room { result ≡ done → out.new.fields ≤ length fields.old }
+    ensures behind { result ≡ done
+        → drop out.new.fields fields.new ≡ drop out.new.fields fields.old }
     ensures small { result ≡ buffer_too_small → IsResponseWanted bytes.now out.new.fields
         × (length fields.old < out.new.fields) }
     ensures refused { result ≡ invalid → NoResponseHead bytes.now }

@@ -4,4 +4,4 @@ use Rattle.exported.proofs.http.exported_http_head.Goals as goal
 pub returns-in-Err-Invalid-clause-refused : goal.returns-in-Err-Invalid-clause-refused
 returns-in-Err-Invalid-clause-refused c _ =
     refused_none c.args.bytes.now c.in-Err-Invalid.invalid.place
-    (rw c.in-Err-Invalid.field-0-is at c.in-Err-Invalid.ensures).0
+    (rw c.in-Err-Invalid.field-0-is at c.in-Err-Invalid.ensures.read).0

@@ -1,7 +1,16 @@
 use Rattle.std.proofs.Common.{arith}
+use Rattle.std.proofs.lemmas.Grind.{common_steps}
 use Rattle.format_csv_records.proofs.Lanes.{run_full}
+use Rattle.format_csv_records.proofs.Placing.{run_stored}
 use Rattle.format_csv_records.proofs.buffers.put_plain.Goals as goal
 
 pub returns-clause-run : goal.returns-clause-run
-returns-clause-run c = run_full _ _ _ c.loop-place.invariant.all _ (omega arith)
+returns-clause-run c = run_full _ _ _ c.loop-place.invariant.0.all _ (omega arith)
     c.room_for-room.ensures.few _ c.behind.ensures _ c.plain_len.ensures
+
+pub loop-place-preserved : goal.loop-place-preserved
+loop-place-preserved c = (
+  grind (arith, common_steps),
+  run_stored c.args.at c.loop-place.place c.loop-place.text c.args.text.now _
+      c.loop-place.invariant.1,
+)

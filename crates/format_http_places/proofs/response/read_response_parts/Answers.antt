@@ -4,14 +4,17 @@ use Rattle.format_http_places.proofs.Lines.{past_fields, past_status}
 use Rattle.format_http_places.proofs.Passed.{passed}
 use Rattle.format_http_places.proofs.response.read_response_parts.Goals as goal
 
-pub returns-in_err-found : goal.returns-in_err-found
-returns-in_err-found c =
+pub returns-in_err-found-clause-parts : goal.returns-in_err-found-clause-parts
+returns-in_err-found-clause-parts c =
     passed _ _ _ c.in_err-found.field-0.0 c.from_residual-in_err-found.ensures.1
-    (stops (past_status c.in_ok-line.ensures.is_line) c.in_err-found.ensures)
+    (stops (past_status c.in_ok-line.ensures.is_line) c.in_err-found.ensures.found)
 
 pub overflow_sub-result : goal.overflow_sub-result
 overflow_sub-result c = no_longer (in_turn (past_status c.in_ok-line.ensures.is_line)
-    (past_fields c.in_ok-found.ensures.are_fields))
+    (past_fields c.in_ok-found.ensures.found.are_fields))
 
-pub returns : goal.returns
-returns c = response_read c.in_ok-line.ensures c.in_ok-found.ensures
+pub returns-clause-parts : goal.returns-clause-parts
+returns-clause-parts c = response_read c.in_ok-line.ensures c.in_ok-found.ensures.found
+
+pub returns-clause-behind : goal.returns-clause-behind
+returns-clause-behind c = c.in_ok-found.ensures.behind

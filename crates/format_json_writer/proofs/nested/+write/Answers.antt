@@ -238,3 +238,36 @@ pub write_nested-returns-in_ok-write_string-in-Text-clause-written :
 write_nested-returns-in_ok-write_string-in-Text-clause-written g t c =
     text_put c.args.layout c.args.level _ c.in-Text.is c.as_str-in-Text.ensures.value
     c.as_str-in-Text.utf8 c.in_ok-write_string-in-Text.ensures.written
+
+-- ---- what is kept if whitespace is out of memory
+
+pub write_items-returns-in_err-put_line-in-Some-clause-kept :
+    goal.write_items-returns-in_err-put_line-in-Some-clause-kept
+write_items-returns-in_err-put_line-in-Some-clause-kept g t c =
+    keeps_trans c.in_ok-write_nested-in-Some.ensures.kept
+    (keeps_trans c.loop-item.invariant.kept
+    (keeps_trans (keeps_more _ c.in_ok-push-in-Some.ensures.bytes)
+    c.in_err-put_line-in-Some.ensures.kept))
+
+pub write_members-returns-in_err-put_line-in-Some-clause-kept :
+    goal.write_members-returns-in_err-put_line-in-Some-clause-kept
+write_members-returns-in_err-put_line-in-Some-clause-kept g t c =
+    keeps_trans c.in_ok-write_member-in-Some.ensures.kept
+    (keeps_trans c.loop-member.invariant.kept
+    (keeps_trans (keeps_more _ c.in_ok-push-in-Some.ensures.bytes)
+    c.in_err-put_line-in-Some.ensures.kept))
+
+pub write_array-returns-in_err-put_line_in-2-clause-kept :
+    goal.write_array-returns-in_err-put_line_in-2-clause-kept
+write_array-returns-in_err-put_line_in-2-clause-kept g t c =
+    keeps_trans (keeps_more _ c.in_ok-push.ensures.bytes)
+    (keeps_trans c.in_ok-put_line_in.ensures.kept
+    (keeps_trans c.in_ok-write_items.ensures.kept c.in_err-put_line_in-2.ensures.kept))
+
+pub write_array-returns-clause-kept : goal.write_array-returns-clause-kept
+write_array-returns-clause-kept g t c =
+    keeps_trans (keeps_more _ c.in_ok-push.ensures.bytes)
+    (keeps_trans c.in_ok-put_line_in.ensures.kept
+    (keeps_trans c.in_ok-write_items.ensures.kept
+    (keeps_trans c.in_ok-put_line_in-2.ensures.kept
+    (keeps_more _ c.in_ok-push-2.ensures.bytes))))

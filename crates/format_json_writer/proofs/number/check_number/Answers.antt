@@ -1,4 +1,4 @@
-use Rattle.std.proofs.Common.{inr, refl, rules}
+use Rattle.std.proofs.Common.{inr, refl, rules, sym, ◌∙◌}
 use Rattle.format_json_writer.proofs.Digits.{number_none, number_part, number_whole}
 use Rattle.format_json_writer.proofs.number.check_number.Goals as goal
 
@@ -14,6 +14,10 @@ returns-else-is_read-clause-none c =
           (c.is_read.ensures.no (search rules)),
     )
 
-pub returns-else-is_memory-clause-none : goal.returns-else-is_memory-clause-none
-returns-else-is_memory-clause-none c =
-    inr (refl, number_none c.args.text.now _ c.in-Err.ensures.grammar (λ m. search rules))
+pub returns-in-Err-clause-none : goal.returns-in-Err-clause-none
+returns-in-Err-clause-none c =
+    let soft = c.in-Err.ensures.spared refl in
+    inr (
+      refl,
+      number_none c.args.text.now _ c.in-Err.ensures.grammar (λ m. absurd (cc (sym soft ∙ m))),
+    )

@@ -1,19 +1,25 @@
 use Rattle.std.specs.Prelude.{[]}
+use Rattle.std.specs.Fmt.{decimal}
 use Rattle.std.specs.List.{AllByRecursion}
-use Rattle.std.proofs.Common.{◌-◌, ◌∙◌, arith, inl, inr, refl, rules, sym}
+use Rattle.std.proofs.Common.{◌-◌, ◌∙◌, arith, inl, inr, refl, rules, subst, sym}
+use Rattle.grammars.specs.Texts.{EachText}
 use Rattle.std.proofs.lemmas.Result.{IfErr-weaker, on_ok_weaker}
 use Rattle.format_resp.proofs.Encodings.{shown_is}
 use Rattle.format_resp.proofs.Made.{big_number_is, boolean_is, bulk_error_is, bulk_is, double_is}
 use Rattle.format_resp.proofs.Made.{error_is, null_array_is, null_bulk_is, null_is}
 use Rattle.format_resp.proofs.Made.{shaped, simple_is, verbatim_is}
+use Rattle.format_resp.proofs.OnlyTexts.{written_only}
+use Rattle.format_resp.proofs.Rooms.{aggregate_full, data_full, full_err, full_with, integer_full}
+use Rattle.format_resp.proofs.Rooms.{lacks_behind, lacks_first, line_full, null_array_full}
+use Rattle.format_resp.proofs.Rooms.{null_bulk_full, row_behind, row_first}
 use Rattle.format_resp.proofs.Writing.{aggregate_put, among, as_error, data_put, deep_aggregate}
 use Rattle.format_resp.proofs.Writing.{if_error, integer_put, keeps_trans, line_put, list_put}
 use Rattle.format_resp.proofs.Writing.{null_array_put}
 use Rattle.format_resp.proofs.Writing.{null_bulk_put, or_itself, refused_count, refused_foreign}
 use Rattle.format_resp.proofs.Writing.{refused_form, refused_within, row_end, row_more}
 use Rattle.format_resp.specs.Numbers.{IsBigNumber, IsDouble}
-use Rattle.format_resp.specs.Resp.{InLine}
-use Rattle.format_resp.specs.Written.{IsBroken}
+use Rattle.format_resp.specs.Resp.{InLine, WrittenText, gathered}
+use Rattle.format_resp.specs.Written.{IsBroken, marked}
 use Rattle.format_resp.specs.declared.marks.AggregateMark.TheVariants.{Bar, Greater, Percent, Star}
 use Rattle.format_resp.specs.declared.marks.AggregateMark.TheVariants.{Tilde}
 use Rattle.format_resp.specs.declared.marks.DataMark.TheVariants.{Dollar, Equals, Exclamation}
@@ -32,6 +38,11 @@ write_elements-loop-reply-preserved g t c =
       ends = λ after more. held.ends after (row_more _ c.loop-reply.reply-index
           c.reply-item.result (omega arith) c.reply-item.is written.written more);
       kept = keeps_trans held.kept written.kept;
+      room = omega (arith, held.room, written.capacity);
+      lacks = λ more. held.lacks (row_behind (WrittenText c.args.protocol c.args.level)
+          c.args.replies.now c.loop-reply.reply-index c.reply-item.result (omega arith)
+          c.reply-item.is (written_only c.args.protocol c.args.level)
+          c.loop-reply.into c.write_nested.new.into written.written written.capacity more);
     }
 
 pub write_elements-returns-clause-written : goal.write_elements-returns-clause-written
@@ -53,7 +64,47 @@ pub write_elements-returns-in_err-write_nested-clause-kept :
 write_elements-returns-in_err-write_nested-clause-kept g t c =
     keeps_trans c.loop-reply.invariant.kept c.in_err-write_nested.ensures.kept
 
+pub write_elements-returns-in_err-write_nested-clause-capacity :
+    goal.write_elements-returns-in_err-write_nested-clause-capacity
+write_elements-returns-in_err-write_nested-clause-capacity g t c =
+    omega (arith, c.loop-reply.invariant.room, c.in_err-write_nested.ensures.capacity)
+
+pub write_elements-returns-clause-capacity : goal.write_elements-returns-clause-capacity
+write_elements-returns-clause-capacity g t c = c.loop-reply.invariant.room
+
+pub write_elements-returns-in_err-write_nested-clause-full :
+    goal.write_elements-returns-in_err-write_nested-clause-full
+write_elements-returns-in_err-write_nested-clause-full g t c =
+    if_error _ c.from_residual.result _ c.from_residual.ensures.1
+    (λ is. c.loop-reply.invariant.lacks (row_first (WrittenText c.args.protocol c.args.level)
+    c.args.replies.now c.loop-reply.reply-index c.reply-item.result (omega arith)
+    c.reply-item.is c.loop-reply.into (c.in_err-write_nested.ensures.full is)))
+
 -- ---- aggregates
+
+pub write_list-returns-in_err-write_size-in-Some-clause-full :
+    goal.write_list-returns-in_err-write_size-in-Some-clause-full
+write_list-returns-in_err-write_size-in-Some-clause-full g t c =
+    full_err (WrittenText c.args.protocol c.args.level) (gathered c.args.mark c.args.replies.now)
+    c.args.into.now c.from_residual.result (aggregate_full c.args.protocol c.args.mark
+    c.in-Some.size (c.args.level - 1) c.args.replies.now c.args.into.now
+    (sym (c.len.ensures ∙ c.args.replies.now.ok.0) ∙ c.in-Some.ensures.some) (omega arith)
+    c.byte.ensures (λ ys are. lacks_first c.args.into.now
+    (marked c.byte.result (decimal c.in-Some.size)) ys c.in_err-write_size-in-Some.ensures.full))
+
+pub write_list-returns-in_ok-write_size-in-Some-clause-full :
+    goal.write_list-returns-in_ok-write_size-in-Some-clause-full
+write_list-returns-in_ok-write_size-in-Some-clause-full g t c =
+    let put = c.in_ok-write_size-in-Some.ensures in
+    let written = WrittenText c.args.protocol (c.args.level - 1) in
+    IfErr-weaker c.write_elements.result _ _
+    (λ e full is. aggregate_full c.args.protocol c.args.mark c.in-Some.size (c.args.level - 1)
+    c.args.replies.now c.args.into.now
+    (sym (c.len.ensures ∙ c.args.replies.now.ok.0) ∙ c.in-Some.ensures.some) (omega arith)
+    c.byte.ensures (λ ys are. lacks_behind c.args.into.now c.write_size.new.into
+    (marked c.byte.result (decimal c.in-Some.size)) ys put.written put.capacity
+    (full is ys (subst (λ l. EachText written l ys) (sym c.as_slice.ensures.value) are))))
+    c.write_elements.ensures.full
 
 pub write_list-returns-then-level-eq0-clause-refused :
     goal.write_list-returns-then-level-eq0-clause-refused
@@ -292,3 +343,104 @@ write_nested-returns-in_ok-write_line-in-NullArray-clause-written g t c =
     null_array_put c.args.protocol c.args.level c.if-is_foreign.ensures
     (shaped c.in-NullArray.is null_array_is)
     c.in_ok-write_line-in-NullArray.ensures.written
+
+-- ---- replies for which there is no room
+
+pub write_nested-returns-in_err-write_integer-in-Integer-clause-full :
+    goal.write_nested-returns-in_err-write_integer-in-Integer-clause-full
+write_nested-returns-in_err-write_integer-in-Integer-clause-full g t c =
+    full_err (WrittenText c.args.protocol c.args.level) c.args.reply.now c.args.into.now
+    c.from_residual.result
+    (integer_full c.args.protocol c.args.level c.args.reply.now c.args.into.now
+    _ c.in_err-write_integer-in-Integer.ensures.full (search (rules, c.in-Integer.is))
+    (search rules))
+
+pub write_nested-returns-in_err-write_line-in-Null-clause-full :
+    goal.write_nested-returns-in_err-write_line-in-Null-clause-full
+write_nested-returns-in_err-write_line-in-Null-clause-full g t c =
+    full_err (WrittenText c.args.protocol c.args.level) c.args.reply.now c.args.into.now
+    c.from_residual-in_err-write_line-in-Null.result
+    (line_full c.args.protocol c.args.level c.args.reply.now c.args.into.now Underscore
+    [] (shaped c.in-Null.is null_is, refl) c.in_err-write_line-in-Null.ensures.full)
+
+pub write_nested-returns-in_err-write_line-in-Boolean-clause-full :
+    goal.write_nested-returns-in_err-write_line-in-Boolean-clause-full
+write_nested-returns-in_err-write_line-in-Boolean-clause-full g t c =
+    full_err (WrittenText c.args.protocol c.args.level) c.args.reply.now c.args.into.now
+    c.from_residual-in_err-write_line-in-Boolean.result
+    (line_full c.args.protocol c.args.level c.args.reply.now c.args.into.now Hash
+    c.boolean_text.result.now (_, shaped c.in-Boolean.is (boolean_is _), c.boolean_text.ensures)
+    c.in_err-write_line-in-Boolean.ensures.full)
+
+pub write_nested-returns-in_err-write_data-in-Bulk-clause-full :
+    goal.write_nested-returns-in_err-write_data-in-Bulk-clause-full
+write_nested-returns-in_err-write_data-in-Bulk-clause-full g t c =
+    full_err (WrittenText c.args.protocol c.args.level) c.args.reply.now c.args.into.now
+    c.from_residual-in_err-write_data-in-Bulk.result
+    (data_full c.args.protocol c.args.level c.args.reply.now c.args.into.now Dollar _
+    (shaped c.in-Bulk.is (bulk_is _)) tt (search rules) c.in_err-write_data-in-Bulk.ensures.full)
+
+pub write_nested-returns-in_err-write_data-in-BulkError-clause-full :
+    goal.write_nested-returns-in_err-write_data-in-BulkError-clause-full
+write_nested-returns-in_err-write_data-in-BulkError-clause-full g t c =
+    full_err (WrittenText c.args.protocol c.args.level) c.args.reply.now c.args.into.now
+    c.from_residual-in_err-write_data-in-BulkError.result
+    (data_full c.args.protocol c.args.level c.args.reply.now c.args.into.now Exclamation
+    _ (shaped c.in-BulkError.is (bulk_error_is _)) tt (search rules)
+    c.in_err-write_data-in-BulkError.ensures.full)
+
+pub write_nested-returns-in_err-write_line-in-NullBulk-clause-full :
+    goal.write_nested-returns-in_err-write_line-in-NullBulk-clause-full
+write_nested-returns-in_err-write_line-in-NullBulk-clause-full g t c =
+    full_err (WrittenText c.args.protocol c.args.level) c.args.reply.now c.args.into.now
+    c.from_residual-in_err-write_line-in-NullBulk.result
+    (null_bulk_full c.args.protocol c.args.level c.args.reply.now c.args.into.now
+    (shaped c.in-NullBulk.is null_bulk_is) c.in_err-write_line-in-NullBulk.ensures.full)
+
+pub write_nested-returns-in_err-write_line-in-NullArray-clause-full :
+    goal.write_nested-returns-in_err-write_line-in-NullArray-clause-full
+write_nested-returns-in_err-write_line-in-NullArray-clause-full g t c =
+    full_err (WrittenText c.args.protocol c.args.level) c.args.reply.now c.args.into.now
+    c.from_residual-in_err-write_line-in-NullArray.result
+    (null_array_full c.args.protocol c.args.level c.args.reply.now c.args.into.now
+    (shaped c.in-NullArray.is null_array_is) c.in_err-write_line-in-NullArray.ensures.full)
+
+pub write_nested-returns-in-Simple-clause-full :
+    goal.write_nested-returns-in-Simple-clause-full
+write_nested-returns-in-Simple-clause-full g t c =
+    full_with (WrittenText c.args.protocol c.args.level) c.args.reply.now c.args.into.now
+    c.write_text.result c.write_text.ensures.full
+    (λ valid. line_full c.args.protocol c.args.level c.args.reply.now c.args.into.now Plus _
+    (_, shaped c.in-Simple.is (simple_is _), shown_is (AllByRecursion InLine) _ valid))
+
+pub write_nested-returns-in-Error-clause-full :
+    goal.write_nested-returns-in-Error-clause-full
+write_nested-returns-in-Error-clause-full g t c =
+    full_with (WrittenText c.args.protocol c.args.level) c.args.reply.now c.args.into.now
+    c.write_text-in-Error.result c.write_text-in-Error.ensures.full
+    (λ valid. line_full c.args.protocol c.args.level c.args.reply.now c.args.into.now Minus _
+    (_, shaped c.in-Error.is (error_is _), shown_is (AllByRecursion InLine) _ valid))
+
+pub write_nested-returns-in-Double-clause-full :
+    goal.write_nested-returns-in-Double-clause-full
+write_nested-returns-in-Double-clause-full g t c =
+    full_with (WrittenText c.args.protocol c.args.level) c.args.reply.now c.args.into.now
+    c.write_double.result c.write_double.ensures.full
+    (λ valid. line_full c.args.protocol c.args.level c.args.reply.now c.args.into.now Comma _
+    (_, shaped c.in-Double.is (double_is _), shown_is IsDouble _ valid))
+
+pub write_nested-returns-in-BigNumber-clause-full :
+    goal.write_nested-returns-in-BigNumber-clause-full
+write_nested-returns-in-BigNumber-clause-full g t c =
+    full_with (WrittenText c.args.protocol c.args.level) c.args.reply.now c.args.into.now
+    c.write_big_number.result c.write_big_number.ensures.full
+    (λ valid. line_full c.args.protocol c.args.level c.args.reply.now c.args.into.now Parenthesis _
+    (_, shaped c.in-BigNumber.is (big_number_is _), shown_is IsBigNumber _ valid))
+
+pub write_nested-returns-in-Verbatim-clause-full :
+    goal.write_nested-returns-in-Verbatim-clause-full
+write_nested-returns-in-Verbatim-clause-full g t c =
+    full_with (WrittenText c.args.protocol c.args.level) c.args.reply.now c.args.into.now
+    c.write_verbatim.result c.write_verbatim.ensures.full
+    (λ valid. data_full c.args.protocol c.args.level c.args.reply.now c.args.into.now Equals _
+    (shaped c.in-Verbatim.is (verbatim_is _)) valid (search rules))

@@ -1,5 +1,6 @@
-use Rattle.std.proofs.Common.{◌+◌, ◌*◌, ℕ, List, drop}
+use Rattle.std.proofs.Common.{◌≤◌, ◌+◌, ◌*◌, ℕ, List, drop, vec_capacity}
 use Rattle.grammars.specs.Texts.{EachText}
+use Rattle.format_resp.proofs.Rooms.{LacksFor}
 use Rattle.format_resp.specs.Resp.{WrittenText}
 use Rattle.format_resp.specs.Written.{Adds, Keeps}
 use Rattle.format_resp.proofs.write.+write.Given as goal
@@ -14,7 +15,8 @@ decreases-write_nested g l = 3 * l.level + 2
 abbrev pub decreases-write_list : goal.decreases-write_list
 decreases-write_list g l = 3 * l.level + 1
 
--- what ends the replies from here ends them from the first on
+-- what ends the replies from here ends them from the first on, and for what has no room from here
+-- there was none from the first on
 abbrev pub invariant-write_elements-loop-reply : goal.invariant-write_elements-loop-reply
 invariant-write_elements-loop-reply g l = record {
   ends : (after : List ℕ)
@@ -22,4 +24,7 @@ invariant-write_elements-loop-reply g l = record {
       l.into.items after
       → Adds (EachText (WrittenText l.protocol l.level)) l.replies l.initial.into.items after;
   kept : Keeps l.initial.into.items l.into.items;
+  room : vec_capacity l.initial.into ≤ vec_capacity l.into;
+  lacks : LacksFor (EachText (WrittenText l.protocol l.level)) (drop l.reply-index l.replies) l.into
+      → LacksFor (EachText (WrittenText l.protocol l.level)) l.replies l.initial.into;
 }

@@ -1,4 +1,4 @@
-use Rattle.std.proofs.Common.{◌≡◌, ◌++◌, drop}
+use Rattle.std.proofs.Common.{◌≡◌, ◌≤◌, ◌++◌, drop, vec_capacity}
 use Rattle.format_resp.specs.Written.{Keeps, bulks_of}
 use Rattle.format_resp.proofs.write.write_bulks.Given as goal
 
@@ -8,4 +8,5 @@ invariant-loop-part g l = record {
   told : l.into.items ++ bulks_of (drop l.part-index l.parts)
       ≡ l.initial.into.items ++ bulks_of l.parts;
   kept : Keeps l.initial.into.items l.into.items;
+  room : vec_capacity l.initial.into ≤ vec_capacity l.into;
 }

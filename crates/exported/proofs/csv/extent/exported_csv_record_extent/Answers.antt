@@ -19,3 +19,9 @@ returns-in-Some-clause-kept c is = absurd (omega (arith, is, c.find_end.ensures.
 
 pub returns-in-None-clause-told : goal.returns-in-None-clause-told
 returns-in-None-clause-told c d this _ = absurd (c.in-None.ensures.only (d, this))
+
+pub returns-in-None-clause-within : goal.returns-in-None-clause-within
+returns-in-None-clause-within c = (
+  omega (arith, c.none_at.ensures.sizes.2),
+  omega (arith, c.none_at.ensures.place),
+)

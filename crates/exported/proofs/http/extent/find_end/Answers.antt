@@ -1,7 +1,18 @@
 use Rattle.std.proofs.Common.{◌∙◌, ap, arith}
-use Rattle.std.specs.Prelude.{Ok}
-use Rattle.exported.proofs.HeadExtent.{never_at, tells_head}
+use Rattle.std.specs.Prelude.{Err, Ok, Some}
+use Rattle.exported.proofs.HeadExtent.{never_at, stops_within, tells_head}
 use Rattle.exported.proofs.http.extent.find_end.Goals as goal
+
+pub returns-in-Ok-Some-clause-within : goal.returns-in-Ok-Some-clause-within
+returns-in-Ok-Some-clause-within c =
+    stops_within _ _ c.args.bytes.now c.advance-answer.result c.advance-answer.ensures.fresh
+    c.advance-answer.ensures.short (Ok (Some c.in-Ok-Some.length))
+    (c.in-Ok-Some.is ∙ ap Ok (rw c.in-Ok-Some.is at c.in-Ok-Some.field-0-is))
+
+pub returns-in-Err-clause-within : goal.returns-in-Err-clause-within
+returns-in-Err-clause-within c =
+    stops_within _ _ c.args.bytes.now c.advance-answer.result c.advance-answer.ensures.fresh
+    c.advance-answer.ensures.short (Err c.in-Err.refused) c.in-Err.is
 
 pub returns-in-Ok-Some-clause-told : goal.returns-in-Ok-Some-clause-told
 returns-in-Ok-Some-clause-told c =

@@ -4,4 +4,4 @@ use Rattle.exported.proofs.http.response.exported_http_response_head.Goals as go
 pub returns-in-Err-Invalid-clause-refused : goal.returns-in-Err-Invalid-clause-refused
 returns-in-Err-Invalid-clause-refused c _ =
     no_response c.args.bytes.now c.in-Err-Invalid.invalid.place
-    (rw c.in-Err-Invalid.field-0-is at c.in-Err-Invalid.ensures).0
+    (rw c.in-Err-Invalid.field-0-is at c.in-Err-Invalid.ensures.read).0

@@ -1,3 +1,4 @@
+use Rattle.std.proofs.Common.{arith}
 use Rattle.format_csv_records.proofs.Extents.{kept, led, told, within}
 use Rattle.format_csv_records.proofs.extent.RecordExtent.advance.Goals as goal
 
@@ -18,3 +19,6 @@ returns-else-self-2-clause-kept c here =
     let (room, text, fields) = within _ _ _ here in
     kept _ c.args.dialect.apart _ _ _ _ here
     (returns-else-self-2-clause-fresh c room (text, fields))
+
+pub returns-else-self-2-clause-many : goal.returns-else-self-2-clause-many
+returns-else-self-2-clause-many c not = absurd (not (omega arith, omega arith))

@@ -1,0 +1,226 @@
+-- Lemmas that a reply is written in one way: `WrittenText` has one encoding of it.
+use Rattle.std.specs.Prelude.{◌≡◌, ◌++◌, Bool, true, false, ℕ, ℤ, zero, suc, List, [], ◌∷◌, length}
+use Rattle.std.specs.Prelude.{pos, Option, None, Some}
+use Rattle.std.specs.Borrow.{Bor}
+use Rattle.std.specs.Fmt.{signed_decimal}
+use Rattle.std.specs.declared.vec.Vec.{Vec}
+use Rattle.std.proofs.Common.{ap, arith, refl, subst, sym, ◌∙◌}
+use Rattle.winnow_grammar.specs.InTurn.{Led}
+use Rattle.grammars.specs.Texts.{CountedText, EachText, Text}
+use Rattle.format_resp.proofs.Made.{line_mark, mark_is}
+use Rattle.format_resp.specs.Resp.{AggregateBehind, Body, BooleanText, Bytes, Content, DataBehind}
+use Rattle.format_resp.specs.Resp.{DataText, ElementsIn, Ended, IsIn, Items, LineSays, MarkText}
+use Rattle.format_resp.specs.Resp.{Nothing, Number, Replies, Shortest, Shown, SizeIn, Truth}
+use Rattle.format_resp.specs.Resp.{WrittenText}
+use Rattle.format_resp.specs.Resp.{byte_of, first_mark, line_end, many, shape_of}
+use Rattle.format_resp.specs.declared.marks.AggregateMark.{AggregateMark}
+use Rattle.format_resp.specs.declared.marks.AggregateMark.TheVariants.{Bar, Percent, Star}
+use Rattle.format_resp.specs.declared.marks.DataMark.{DataMark}
+use Rattle.format_resp.specs.declared.marks.DataMark.TheVariants.{Dollar}
+use Rattle.format_resp.specs.declared.marks.LineMark.{LineMark}
+use Rattle.format_resp.specs.declared.marks.LineMark.TheVariants.{Colon, Hash, Underscore}
+use Rattle.format_resp.specs.declared.marks.Mark.{Mark}
+use Rattle.format_resp.specs.declared.marks.Mark.TheVariants.{Aggregate, Data, Line}
+use Rattle.format_resp.specs.declared.reply.Protocol.{Protocol}
+
+-- one encoding of a value
+abbrev pub IsOnly : {O : Type 0} → Text ℕ O → Type 0
+IsOnly {O} text = (o : O) (xs ys : List ℕ) → text o xs → text o ys → xs ≡ ys
+
+-- ---- what a reply holds
+
+module _ {A : Type 0} where
+  abbrev number_in : Content A → ℤ
+  number_in (Number n) = n
+  number_in c = pos 0
+
+  abbrev bytes_in : Content A → List ℕ
+  bytes_in (Bytes x) = x.now
+  bytes_in c = []
+
+  abbrev truth_in : Content A → Bool
+  truth_in (Truth b) = b
+  truth_in c = false
+
+  abbrev items_in : Content A → List (Replies A)
+  items_in (Items l) = l.items
+  items_in c = []
+
+  abbrev is_nothing : Content A → Bool
+  is_nothing Nothing = true
+  is_nothing c = false
+
+-- what two shapes of a reply hold
+same_in : {A X : Type 0} (of : Content A → X) (reply : Replies A) {m n : Mark} {c d : Content A}
+    → shape_of reply ≡ (m, c) → shape_of reply ≡ (n, d) → of c ≡ of d
+same_in of reply e f = ap (λ s. of s.1) (sym e ∙ f)
+
+-- ---- the parts
+
+boolean_only : (b : Bool) (xs ys : List ℕ) → BooleanText b xs → BooleanText b ys → xs ≡ ys
+boolean_only true xs ys a b = a ∙ sym b
+boolean_only false xs ys a b = a ∙ sym b
+
+ended_only : {O : Type 0} (text : Text ℕ O) → IsOnly text → IsOnly (Ended text)
+unfolding Ended
+ended_only text only o xs ys (v, a, e) (w, b, f) =
+    e ∙ ap (λ l. l ++ line_end) (only o v w a b) ∙ sym f
+
+size_only : (size : Option ℕ) (xs ys : List ℕ) → SizeIn Shortest size xs → SizeIn Shortest size ys
+    → xs ≡ ys
+unfolding Ended
+size_only None xs ys (v, a, e) (w, b, f) = e ∙ ap (λ l. l ++ line_end) (a ∙ sym b) ∙ sym f
+size_only (Some n) xs ys (v, (small, a), e) (w, (less, b), f) =
+    e ∙ ap (λ l. l ++ line_end) (a ∙ sym b) ∙ sym f
+
+data_only : (m n : ℕ) (x y : Bor (List ℕ)) (xs ys : List ℕ) → x.now ≡ y.now → DataText m x xs
+    → DataText n y ys → (m ≡ n) × (xs ≡ ys)
+unfolding DataText Ended CountedText
+data_only m n x y xs ys same (v, (count, a), e) (w, (number, b), f) =
+    let one : v ≡ w = sym a ∙ same ∙ b in (
+      sym count ∙ ap (λ l. length l) one ∙ number,
+      e ∙ ap (λ l. l ++ line_end) one ∙ sym f,
+    )
+
+many_only : (mark : AggregateMark) (m n : ℕ) → many mark m ≡ many mark n → m ≡ n
+many_only Percent m n e = omega (arith, e)
+many_only Bar m n e = omega (arith, e)
+many_only mark m n e = e
+
+-- what follows a size, which is the same
+sized_only : (m n : Option ℕ) (a b xs ys : List ℕ) → m ≡ n → SizeIn Shortest m a
+    → SizeIn Shortest n b → xs ≡ ys → a ++ xs ≡ b ++ ys
+sized_only m n a b xs ys same s t e =
+    let P : Option ℕ → Type 0 = λ k. SizeIn Shortest k b in
+    let one : a ≡ b = size_only m a b s (subst P (sym same) t) in
+    ap (λ l. l ++ xs) one ∙ ap (λ l. b ++ l) e
+
+-- ---- replies
+
+module _ {A : Type 0} (elements : Text ℕ (List (Replies A))) where
+  body_mark : (mark : Mark) (reply : Replies A) (xs : List ℕ) → Body Shortest elements mark reply xs
+      → first_mark reply ≡ mark
+  unfolding Led Ended
+  body_mark (Line mark) reply xs (line, says, e) = line_mark Shortest mark reply line says
+  body_mark (Data mark) reply xs (Some n, a, x, s, (y, is, b), e) = mark_is reply is
+  body_mark (Data Dollar) reply xs (None, a, x, s, (is, b), e) = mark_is reply is
+  body_mark (Data mark) reply xs (None, a, x, s, never, e) = absurd never
+  body_mark (Aggregate mark) reply xs (Some n, a, x, s, (y, is, b), e) = mark_is reply is
+  body_mark (Aggregate Star) reply xs (None, a, x, s, (is, b), e) = mark_is reply is
+  body_mark (Aggregate mark) reply xs (None, a, x, s, never, e) = absurd never
+
+  -- the elements of an aggregate have an encoding if it has one
+  items_have : (mark : AggregateMark) (list : Vec (Replies A) A) (reply : Replies A)
+      (xs : List ℕ) → shape_of reply ≡ (Aggregate mark, Items list)
+      → Body Shortest elements (Aggregate mark) reply xs → (ys : List ℕ) × elements list.items ys
+  unfolding Led
+  items_have mark list reply xs is (Some n, a, x, s, (l, e, (count, are)), f) =
+      let P : List (Replies A) → Type 0 = λ l. elements l x in
+      (x, subst P (same_in items_in reply e is) are)
+  items_have Star list reply xs is (None, a, x, s, (e, b), f) =
+      absurd (cc (same_in is_nothing reply e is))
+  items_have mark list reply xs is (None, a, x, s, never, f) = absurd never
+
+  pub have_items : (protocol : Protocol) (mark : AggregateMark) (list : Vec (Replies A) A)
+      (reply : Replies A) (xs : List ℕ) → shape_of reply ≡ (Aggregate mark, Items list)
+      → Led (MarkText protocol) (Body Shortest elements) reply xs
+      → (ys : List ℕ) × elements list.items ys
+  unfolding Led
+  have_items protocol mark list reply xs is (m, a, x, s, body, e) =
+      let P : Mark → Type 0 = λ k. Body Shortest elements k reply x in
+      items_have mark list reply x is
+      (subst P (sym (body_mark m reply x body) ∙ mark_is reply is) body)
+
+  -- a reply that has an encoding is of the version
+  pub have_mark : (protocol : Protocol) (reply : Replies A) (xs : List ℕ)
+      → Led (MarkText protocol) (Body Shortest elements) reply xs
+      → IsIn protocol (first_mark reply)
+  unfolding Led MarkText
+  have_mark protocol reply xs (m, a, x, (within, c), body, e) =
+      subst (IsIn protocol) (sym (body_mark m reply x body)) within
+
+module _ {A : Type 0} (elements : Text ℕ (List (Replies A))) (only : IsOnly elements) where
+  line_only : (mark : LineMark) → IsOnly (LineSays {A = A} Shortest mark)
+  unfolding Shown
+  line_only Colon reply xs ys (m, e, (small, a)) (n, f, (less, b)) =
+      a ∙ ap (λ k. signed_decimal k) (same_in number_in reply e f) ∙ sym b
+  line_only Underscore reply xs ys (e, a) (f, b) = a ∙ sym b
+  line_only Hash reply xs ys (m, e, a) (n, f, b) =
+      let P : Bool → Type 0 = λ k. BooleanText k ys in
+      boolean_only m xs ys a (subst P (sym (same_in truth_in reply e f)) b)
+  line_only mark reply xs ys here there =
+      let (s, e, (these, a)) = here in
+      let (t, f, (those, b)) = there in sym a ∙ same_in bytes_in reply e f ∙ b
+
+  bytes_only : (mark : DataMark) (m n : Option ℕ) (reply : Replies A) (xs ys : List ℕ)
+      → DataBehind mark m reply xs → DataBehind mark n reply ys → (m ≡ n) × (xs ≡ ys)
+  bytes_only mark (Some m) (Some n) reply xs ys (x, e, (fits, a)) (y, f, (also, b)) =
+      let (same, one) = data_only m n x y xs ys (same_in bytes_in reply e f) a b in
+      (ap (λ k. Some k) same, one)
+  bytes_only Dollar None None reply xs ys (e, a) (f, b) = (refl, a ∙ sym b)
+  bytes_only Dollar None (Some n) reply xs ys (e, a) (y, f, b) =
+      absurd (cc (same_in is_nothing reply e f))
+  bytes_only Dollar (Some m) None reply xs ys (x, e, a) (f, b) =
+      absurd (cc (same_in is_nothing reply e f))
+  bytes_only mark None n reply xs ys never b = absurd never
+  bytes_only mark (Some m) None reply xs ys a never = absurd never
+
+  items_only : (mark : AggregateMark) (m n : Option ℕ) (reply : Replies A) (xs ys : List ℕ)
+      → AggregateBehind elements mark m reply xs → AggregateBehind elements mark n reply ys
+      → (m ≡ n) × (xs ≡ ys)
+  items_only mark (Some m) (Some n) reply xs ys (x, e, (count, a)) (y, f, (number, b)) =
+      let same : x.items ≡ y.items = same_in items_in reply e f in
+      let P : List (Replies A) → Type 0 = λ l. elements l ys in (
+        ap (λ k. Some k) (many_only mark m n
+            (sym count ∙ ap (λ l. length l) same ∙ number)),
+        only x.items xs ys a (subst P (sym same) b),
+      )
+  items_only Star None None reply xs ys (e, a) (f, b) = (refl, a ∙ sym b)
+  items_only Star None (Some n) reply xs ys (e, a) (y, f, b) =
+      absurd (cc (same_in is_nothing reply e f))
+  items_only Star (Some m) None reply xs ys (x, e, a) (f, b) =
+      absurd (cc (same_in is_nothing reply e f))
+  items_only mark None n reply xs ys never b = absurd never
+  items_only mark (Some m) None reply xs ys a never = absurd never
+
+  body_only : (mark : Mark) → IsOnly (Body Shortest elements mark)
+  unfolding Led
+  body_only (Line mark) reply xs ys here there =
+      ended_only (LineSays Shortest mark) (line_only mark) reply xs ys here there
+  body_only (Data mark) reply xs ys (m, a, x, s, here, e) (n, b, y, t, there, f) =
+      let (same, one) = bytes_only mark m n reply x y here there in
+      e ∙ sized_only m n a b x y same s t one ∙ sym f
+  body_only (Aggregate mark) reply xs ys (m, a, x, s, here, e) (n, b, y, t, there, f) =
+      let (same, one) = items_only mark m n reply x y here there in
+      e ∙ sized_only m n a b x y same s t one ∙ sym f
+
+  reply_only : (protocol : Protocol) → IsOnly (Led (MarkText protocol) (Body Shortest elements))
+  unfolding Led MarkText
+  reply_only protocol reply xs ys (m, a, x, (within, c), here, e) (n, b, y, (also, d), there, f) =
+      let same : m ≡ n =
+      sym (body_mark elements m reply x here) ∙ body_mark elements n reply y there in
+      let P : Mark → Type 0 = λ k. Body Shortest elements k reply y in
+      let one : x ≡ y = body_only m reply x y here (subst P (sym same) there) in
+      e ∙ ap (λ l. l ++ x) c ∙ ap (λ k. byte_of k ∷ x) same ∙ ap (λ l. byte_of n ∷ l) one
+      ∙ ap (λ l. l ++ y) (sym d) ∙ sym f
+
+pub rows_only : {O : Type 0} (text : Text ℕ O) → IsOnly text → IsOnly (EachText text)
+unfolding EachText
+rows_only text only [] xs ys a b = a ∙ sym b
+rows_only text only (o ∷ os) xs ys (v, w, a, row, e) (p, q, b, more, f) =
+    e ∙ ap (λ l. l ++ w) (only o v p a b) ∙ ap (λ l. p ++ l) (rows_only text only os w q row more)
+    ∙ sym f
+
+module _ {A : Type 0} (protocol : Protocol) where
+  elements_only : (level : ℕ) → IsOnly (ElementsIn Shortest protocol {A = A} level)
+  unfolding ElementsIn
+  elements_only zero os xs ys never b = absurd never
+  elements_only (suc level) os xs ys here there =
+      rows_only (WrittenText protocol level)
+      (reply_only (ElementsIn Shortest protocol level) (elements_only level) protocol) os xs ys
+      here there
+
+  pub written_only : (level : ℕ) (reply : Replies A) (xs ys : List ℕ)
+      → WrittenText protocol level reply xs → WrittenText protocol level reply ys → xs ≡ ys
+  written_only level =
+      reply_only (ElementsIn Shortest protocol level) (elements_only level) protocol

@@ -1,0 +1,200 @@
+-- Lemmas about bytes for which a vector has no room.
+use Rattle.std.specs.Prelude.{◌≡◌, ◌≤◌, ◌<◌, ◌+◌, ◌++◌, ◌^◌, ℕ, suc, List, [], ◌∷◌, Result}
+use Rattle.std.specs.Prelude.{◌/◌, ◌%◌, ℤ, Ok, Err, FitsSigned, IfErr, OnErr, drop, length}
+use Rattle.std.specs.Prelude.{slice_index_or, vec_capacity}
+use Rattle.std.specs.Borrow.{Bor}
+use Rattle.std.specs.Fmt.{decimal, signed_decimal}
+use Rattle.std.specs.Int.{w64}
+use Rattle.std.specs.declared.vec.Vec.{Vec}
+use Rattle.std.proofs.Common.{ap, arith, refl, subst, sym, ◌∙◌}
+use Rattle.std.proofs.lemmas.Fmt.{decimal_digit, decimal_step}
+use Rattle.std.proofs.lemmas.List.{drop_more, length-append}
+use Rattle.std.proofs.lemmas.Result.{IfErr-weaker}
+use Rattle.grammars.specs.Texts.{EachText, Text}
+use Rattle.format_resp.proofs.Made.{gathered_is, integer_is, shaped}
+use Rattle.format_resp.proofs.OnlyTexts.{IsOnly, have_items, have_mark, written_only}
+use Rattle.format_resp.proofs.WrittenTexts.{aggregate_text, data_text, line_text, null_array_text}
+use Rattle.format_resp.proofs.WrittenTexts.{null_bulk_text}
+use Rattle.format_resp.specs.Resp.{Bytes, ElementsIn, Fits, IsIn, LineSays, Nothing, Replies}
+use Rattle.format_resp.specs.Resp.{Shortest}
+use Rattle.format_resp.specs.Resp.{WrittenText, byte_of, first_mark, formatted, gathered, many}
+use Rattle.format_resp.specs.Resp.{shape_of}
+use Rattle.format_resp.specs.Written.{Adds, IsFullForEach, LacksRoom, bulks_of}
+use Rattle.format_resp.specs.Written.{data_of, marked}
+use Rattle.format_resp.specs.declared.marks.AggregateMark.{AggregateMark}
+use Rattle.format_resp.specs.declared.marks.AggregateMark.TheVariants.{Star}
+use Rattle.format_resp.specs.declared.marks.DataMark.{DataMark}
+use Rattle.format_resp.specs.declared.marks.DataMark.TheVariants.{Dollar}
+use Rattle.format_resp.specs.declared.marks.LineMark.{LineMark}
+use Rattle.format_resp.specs.declared.marks.LineMark.TheVariants.{Colon}
+use Rattle.format_resp.specs.declared.marks.Mark.TheVariants.{Aggregate, Data, Line}
+use Rattle.format_resp.specs.declared.reply.Protocol.{Protocol}
+use Rattle.format_resp.specs.declared.reply.Reply as made
+use Rattle.format_resp.specs.declared.write.WriteError.{WriteError}
+use Rattle.format_resp.specs.declared.write.WriteError.TheVariants.{OutOfMemory}
+
+pub on_err : {X E P : Type 0} (r : Result X E) → P → OnErr r P
+on_err (Ok x) p = tt
+on_err (Err e) p = p
+
+-- a part where there is none
+abbrev pub none : Bor (List ℕ)
+none = record { ref_ptr = (0, 0); now = [] }
+
+-- ---- parts
+
+module _ {B : Type 0} where
+  -- no room for the first bytes
+  pub lacks_first : (v : Vec ℕ B) (xs ys : List ℕ) → LacksRoom v xs → LacksRoom v (xs ++ ys)
+  lacks_first v xs ys full = omega (arith, full, length-append xs ys)
+
+  -- no room for bytes that end the same
+  pub lacks_ending : (v w : Vec ℕ B) (xs ys : List ℕ) → w.items ++ xs ≡ v.items ++ ys
+      → vec_capacity v ≤ vec_capacity w → LacksRoom w xs → LacksRoom v ys
+  lacks_ending v w xs ys e room full =
+      let many : length w.items + length xs ≡ length v.items + length ys =
+      sym (length-append w.items xs) ∙ ap (λ l. length l) e ∙ length-append v.items ys in
+      omega (arith, full, room, many, v.ok.0, w.ok.0)
+
+  -- no room for the bytes behind the first
+  pub lacks_behind : (v w : Vec ℕ B) (xs ys : List ℕ) → w.items ≡ v.items ++ xs
+      → vec_capacity v ≤ vec_capacity w → LacksRoom w ys → LacksRoom v (xs ++ ys)
+  lacks_behind v w xs ys e room full =
+      let many : length w.items ≡ length v.items + length xs =
+      ap (λ l. length l) e ∙ length-append v.items xs in
+      omega (arith, full, room, many, v.ok.0, w.ok.0, length-append xs ys)
+
+  -- no room for the first digits of a number, or for the last
+  pub digits_first : (v : Vec ℕ B) (n : ℕ) → 10 ≤ n → n < 2 ^ 64 → LacksRoom v (decimal (n / 10))
+      → LacksRoom v (decimal n)
+  digits_first v n low high full = subst (λ l. LacksRoom v l) (sym (decimal_step n low high))
+      (lacks_first v (decimal (n / 10)) ((48 + n % 10) ∷ []) full)
+
+  pub digits_last : (v w : Vec ℕ B) (n : ℕ) → 10 ≤ n → n < 2 ^ 64
+      → w.items ≡ v.items ++ decimal (n / 10) → vec_capacity v ≤ vec_capacity w
+      → LacksRoom w ((48 + n % 10) ∷ []) → LacksRoom v (decimal n)
+  digits_last v w n low high e room full =
+      subst (λ l. LacksRoom v l) (sym (decimal_step n low high))
+      (lacks_behind v w (decimal (n / 10)) ((48 + n % 10) ∷ []) e room full)
+
+  pub digit_lacks : (v : Vec ℕ B) (n : ℕ) → n < 10 → LacksRoom v ((48 + n) ∷ [])
+      → LacksRoom v (decimal n)
+  digit_lacks v n small full = subst (λ l. LacksRoom v l) (sym (decimal_digit n small)) full
+
+  -- no room for a bulk string, which others follow
+  pub lacks_bulk : (v : Vec ℕ B) (parts : List (Bor (List ℕ))) (k : ℕ) (part : List ℕ)
+      → k < length parts → part ≡ (slice_index_or parts k none).now → LacksRoom v (data_of 36 part)
+      → LacksRoom v (bulks_of (drop k parts))
+  lacks_bulk v parts k part below is full =
+      subst (λ l. LacksRoom v (bulks_of l)) (sym (drop_more parts k none below))
+      (lacks_first v (data_of 36 (slice_index_or parts k none).now) (bulks_of (drop (k + 1) parts))
+      (subst (λ l. LacksRoom v (data_of 36 l)) is full))
+
+-- ---- encodings
+
+-- no room for an encoding of the value
+abbrev pub LacksFor : {O B : Type 0} → Text ℕ O → O → Vec ℕ B → Type 0
+LacksFor text o into = (tokens : List ℕ) → text o tokens → LacksRoom into tokens
+
+module _ {O B T : Type 0} (text : Text ℕ O) (o : O) (into : Vec ℕ B) (result : Result T WriteError)
+  where
+    pub full_err : LacksFor text o into → IfErr result (IsFullForEach text o into)
+    full_err = if_err text o into result
+      where
+        if_err : {O B T : Type 0} (text : Text ℕ O) (o : O) (into : Vec ℕ B)
+            (result : Result T WriteError) → LacksFor text o into
+            → IfErr result (IsFullForEach text o into)
+        if_err text o into (Ok x) full = tt
+        if_err text o into (Err e) full = λ is. full
+
+    pub full_with : {P Q : Type 0} → IfErr result (λ e. e ≡ OutOfMemory → P × Q)
+        → (P → Q → LacksFor text o into) → IfErr result (IsFullForEach text o into)
+    full_with {P} {Q} told leads = IfErr-weaker result (λ e. e ≡ OutOfMemory → P × Q)
+        (IsFullForEach text o into) (λ e full is. leads (full is).0 (full is).1) told
+
+one_more : {O : Type 0} (os : List O) (k : ℕ) (o : O) → k < length os → o ≡ slice_index_or os k o
+    → drop k os ≡ o ∷ drop (k + 1) os
+one_more os k o below is = drop_more os k o below ∙ ap (λ p. p ∷ drop (k + 1) os) (sym is)
+
+module _ {O B : Type 0} (text : Text ℕ O) (os : List O) (k : ℕ) (o : O) (below : k < length os)
+    (is : o ≡ slice_index_or os k o) where
+  -- of an element, which others follow
+  pub row_first : (v : Vec ℕ B) → LacksFor text o v → LacksFor (EachText text) (drop k os) v
+  unfolding EachText
+  row_first v full = subst (λ l. LacksFor (EachText text) l v) (sym (one_more os k o below is))
+      (λ tokens (xs, ys, a, row, e).
+      subst (λ l. LacksRoom v l) (sym e) (lacks_first v xs ys (full xs a)))
+
+  -- of the elements behind one that was appended
+  pub row_behind : IsOnly text → (v w : Vec ℕ B) → Adds text o v.items w.items
+      → vec_capacity v ≤ vec_capacity w → LacksFor (EachText text) (drop (k + 1) os) w
+      → LacksFor (EachText text) (drop k os) v
+  unfolding EachText
+  row_behind only v w added room full =
+      subst (λ l. LacksFor (EachText text) l v) (sym (one_more os k o below is))
+      (λ tokens (xs, ys, a, row, e).
+      let put = added.behind ∙ ap (λ l. v.items ++ l) (only o added.tokens xs added.is a) in
+      subst (λ l. LacksRoom v l) (sym e) (lacks_behind v w xs ys put room (full ys row)))
+
+module _ {A B : Type 0} (protocol : Protocol) (level : ℕ) (reply : Replies A) (into : Vec ℕ B) where
+  -- of a reply with this encoding
+  of_text : (xs tokens : List ℕ) → WrittenText protocol level reply tokens
+      → (IsIn protocol (first_mark reply) → WrittenText protocol level reply xs)
+      → LacksRoom into xs → LacksRoom into tokens
+  of_text xs tokens is text full =
+      subst (λ l. LacksRoom into l) (written_only protocol level reply xs tokens
+      (text (have_mark (ElementsIn Shortest protocol level) protocol reply tokens is)) is) full
+
+  pub line_full : (mark : LineMark) (line : List ℕ) → LineSays Shortest mark reply line
+      → LacksRoom into (marked (byte_of (Line mark)) line)
+      → LacksFor (WrittenText protocol level) reply into
+  line_full mark line says full tokens is =
+      of_text (marked (byte_of (Line mark)) line) tokens is
+      (λ within. line_text protocol (ElementsIn Shortest protocol level) reply within mark line
+      says) full
+
+  pub integer_full : (n : ℤ) → LacksRoom into (marked 58 (signed_decimal n))
+      → reply ≡ made.Integer n → FitsSigned w64 n → LacksFor (WrittenText protocol level) reply into
+  integer_full n full is fits =
+      line_full Colon (signed_decimal n) (n, shaped is (integer_is n), (fits, refl)) full
+
+  pub data_full : (mark : DataMark) (bytes : Bor (List ℕ))
+      → shape_of reply ≡ (Data mark, Bytes bytes) → Fits (formatted mark) bytes.now
+      → length bytes.now < 2 ^ 63 → LacksRoom into (data_of (byte_of (Data mark)) bytes.now)
+      → LacksFor (WrittenText protocol level) reply into
+  data_full mark bytes shape fits small full tokens is =
+      of_text (data_of (byte_of (Data mark)) bytes.now) tokens is
+      (λ within. data_text protocol (ElementsIn Shortest protocol level) reply within mark bytes
+      shape fits small) full
+
+  pub null_bulk_full : shape_of reply ≡ (Data Dollar, Nothing)
+      → LacksRoom into (marked 36 (45 ∷ 49 ∷ [])) → LacksFor (WrittenText protocol level) reply into
+  null_bulk_full shape full tokens is = of_text (marked 36 (45 ∷ 49 ∷ [])) tokens is
+      (λ within. null_bulk_text protocol (ElementsIn Shortest protocol level) reply within shape)
+      full
+
+  pub null_array_full : shape_of reply ≡ (Aggregate Star, Nothing)
+      → LacksRoom into (marked 42 (45 ∷ 49 ∷ [])) → LacksFor (WrittenText protocol level) reply into
+  null_array_full shape full tokens is = of_text (marked 42 (45 ∷ 49 ∷ [])) tokens is
+      (λ within. null_array_text protocol (ElementsIn Shortest protocol level) reply within shape)
+      full
+
+-- of an aggregate, by those of its elements
+pub aggregate_full : {A B : Type 0} (protocol : Protocol) (mark : AggregateMark) (size below : ℕ)
+    {level byte : ℕ} (list : Vec (Replies A) A) (into : Vec ℕ B)
+    → length list.items ≡ many mark size → level ≡ below + 1 → byte ≡ byte_of (Aggregate mark)
+    → ((ys : List ℕ) → EachText (WrittenText protocol below) list.items ys
+    → LacksRoom into (marked byte (decimal size) ++ ys))
+    → LacksFor (WrittenText protocol level) (gathered mark list) into
+unfolding ElementsIn
+aggregate_full {A} protocol mark size below {level} list into count is first full =
+    let elements = ElementsIn Shortest protocol {A = A} (suc below) in
+    let reply = gathered mark list in
+    let shape = gathered_is mark list refl in
+    let same : suc below ≡ level = omega (arith, is) in
+    subst (λ l. LacksFor (WrittenText protocol l) reply into) same (λ tokens text.
+    let (ys, are) = have_items elements protocol mark list reply tokens shape text in
+    of_text protocol (suc below) reply into
+    (marked (byte_of (Aggregate mark)) (decimal size) ++ ys) tokens text
+    (λ within. aggregate_text protocol elements reply within mark size list ys shape count are)
+    (subst (λ b. LacksRoom into (marked b (decimal size) ++ ys)) first (full ys are)))
