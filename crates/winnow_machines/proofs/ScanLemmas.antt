@@ -1,4 +1,4 @@
--- What the state tells after the bytes that a machine passes.
+-- The result of a scan, by the state after the bytes that a machine passes.
 use Rattle.std.specs.Prelude.{◌≡◌, ◌<◌, ◌-◌, ℕ, Bool, true, false, List, [], ◌∷◌, ◌++◌, length}
 use Rattle.std.specs.Prelude.{Some, None, Ok, Err}
 use Rattle.std.proofs.Common.{refl, sym, subst, ap, ◌∙◌, inl, inr, arith}
@@ -77,7 +77,7 @@ module _ {S : Type 0} (g : Grammar S) (laws : Lawful g) {from to : S} {bytes lef
         (all_passed none ∙ sym (append-nil reached.front)) word)),
   )
 
-  -- no word goes on with the next byte
+  -- no word continues with the next byte
   pub no_word : (more : Bool) → 0 < length left → (g.residual to [] → ⊥)
       → Tells (words g) more bytes Invalid
   no_word more some never = (

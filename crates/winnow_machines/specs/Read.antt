@@ -14,7 +14,7 @@ use Rattle.parser_definitions.specs.Left.{left_of}
 use Rattle.parser_definitions.specs.Outcome.{Outcome, backs, outcome_of}
 use Rattle.winnow_machines.specs.Word.{IsOpen, IsWord, WordDoes}
 
--- The longest word, which no longer input changes; or with some byte no word goes on, and nothing
+-- The longest word, which no longer input changes; or no word continues with some byte, and nothing
 -- is consumed; or some longer input is a word.
 abbrev pub WordRead : {S : Type 0} → Reading ℕ S → Language → List ℕ → Answer S → List ℕ → Type 0
 WordRead reading L tokens (Ok slice) rest =

@@ -1,4 +1,4 @@
--- What a scan of the remaining bytes tells.
+-- The result of a scan of the remaining bytes.
 use Rattle.std.specs.Prelude.{◌≡◌, ℕ, Bool, false, List, length}
 use Rattle.machines.specs.Grammar.{FirstInvalid}
 use Rattle.machines.specs.Languages.{Language}

@@ -30,7 +30,7 @@ pub record IsWord (L : Language) (more : Bool) (bytes front left : List ℕ) : T
 abbrev pub IsOpen : Language → List ℕ → Type 0
 IsOpen L bytes = (b : ℕ) × (word : List ℕ) × L (bytes ++ b ∷ word)
 
--- With some byte no word goes on; or the bytes begin a word, are none, and no more may come.
+-- No word continues with some byte; or the bytes begin a word, are none, and no more may come.
 abbrev pub HasNone : Language → Bool → List ℕ → Type 0
 HasNone L more bytes =
     ((n : ℕ) × FirstInvalid L bytes n) ⊎ ((more ≡ false) × (L bytes → ⊥) × IsOpen L bytes)
