@@ -134,7 +134,7 @@ impl<O: Drop, A: Drop> Accumulate<O, A> for usize {
     }
 }
 
-/// An empty text, with room for `capacity` bytes if that is given and not refused.
+/// An empty text, with room for `capacity` bytes if that is given and can be allocated.
 #[inline(always)]
 fn text_with_room<A: Allocator>(alloc: A, capacity: Option<usize>) -> String<A>
     ensures { string_bytes result ≡ [] }
@@ -147,7 +147,7 @@ fn text_with_room<A: Allocator>(alloc: A, capacity: Option<usize>) -> String<A>
 }
 
 /// A text to which the characters are appended. An empty one has room for `capacity` bytes, if that
-/// is given and not refused; a longer one allocates only if the bytes of a character have no room.
+/// is given and can be allocated; a longer one allocates only if it has no room for a character.
 ///
 /// ```
 /// let text: Result<String, EmptyError> =
@@ -179,7 +179,7 @@ impl<A: Allocator> Accumulate<char, A> for String<A> {
 }
 
 /// A text to which the texts are appended. An empty one has room for `capacity` bytes, if that is
-/// given and not refused; a longer one allocates only if the bytes of a text have no room.
+/// given and can be allocated; a longer one allocates only if it has no room for a text.
 ///
 /// ```
 /// let text: Result<String, EmptyError> =

@@ -14,7 +14,7 @@ pub same_rest : {X : Type 0} (xs ys zs : List X) → xs ++ ys ≡ xs ++ zs → y
 same_rest [] ys zs e = e
 same_rest (x ∷ xs) ys zs e = same_rest xs ys zs (same_others e)
 
--- two lists of the same tokens, divided behind as many: their fronts are the same ...
+-- two equal lists, each divided after as many tokens: their fronts are equal ...
 pub same_front : {X : Type 0} (f g rest more : List X) → length f ≡ length g
     → f ++ rest ≡ g ++ more → f ≡ g
 same_front [] [] rest more n e = refl
@@ -32,11 +32,6 @@ same_behind [] (y ∷ g) rest more n e = absurd (omega (arith, n))
 same_behind (x ∷ f) [] rest more n e = absurd (omega (arith, n))
 same_behind (x ∷ f) (y ∷ g) rest more n e =
     same_behind f g rest more (omega (arith, n)) (same_others e)
-
--- triples of equal parts
-pub triple_is : {A B X : Type 0} {t s : A × B × X} → t.0 ≡ s.0 → t.1 ≡ s.1 → t.2 ≡ s.2 → t ≡ s
-triple_is {t = t} {s = s} e f g =
-    ap (λ x. (x, t.1, t.2)) e ∙ (ap (λ y. (s.0, y, t.2)) f ∙ ap (λ z. (s.0, s.1, z)) g)
 
 -- what there is of two is the same
 pub same_some : {X : Type 0} {x y : X} → Some x ≡ Some y → x ≡ y

@@ -18,7 +18,7 @@ use std::num::NonZeroUsize;
 pub enum Needed {
     /// More is needed, and how much is not known.
     Unknown,
-    /// The parser asks for this number of further units; fewer may be enough.
+    /// The parser needs up to this number of further units.
     Size(NonZeroUsize),
 }
 

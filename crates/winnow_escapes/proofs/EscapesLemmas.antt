@@ -48,7 +48,7 @@ abbrev pub Turns : {Q T L C X : Type 0} → Reading T L → Folding Q C X → Do
     → ErrorForm → C → Runs Q T C
 Turns reading f turn form c = Ran reading (Loop (TextTurn f turn) c) form
 
--- What the turns with a value do from here, those from the start do.
+-- The outcomes of the turns from here are those from the start.
 pub record Leads {Q T L C X : Type 0} (reading : Reading T L) (f : Folding Q C X)
     (turn : Does Q T (Option X)) (form : ErrorForm) (before : C) (s : Q) (i : Input T) (c : C)
     (u : Q) (m : Input T) : Type 0 where

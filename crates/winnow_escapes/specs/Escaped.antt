@@ -18,7 +18,7 @@ escaped_control s = s.control
 abbrev pub escaped_escape : {N K X I O D P C E A : Type 0} → Escaped N K X I O D P C E A → X
 escaped_escape s = s.escape
 
--- The output of a turn, as its definition has it.
+-- The output of a turn in its definition.
 abbrev pub side : {O P : Type 0} → Turn O P → O ⊎ P
 side (Normal o) = inl o
 side (Escape p) = inr p

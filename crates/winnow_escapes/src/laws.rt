@@ -86,7 +86,7 @@ where
         ⟦<NoneOf<S, I, ControlError> as Parser<I, I::Token, ControlError>>⟧.does }
 {}
 
-/// States the same of a byte, if its spellings are one token each.
+/// Likewise for a byte, if its spellings are one token each.
 pub fn a_byte_control_is_settled<I: StreamIsPartial + Compare<u8>>()
     ensures { NeverShort I.spells → Settled ⟦<u8 as Parser<I, u8, ControlError>>⟧.does }
 {}

@@ -14,7 +14,7 @@ use Rattle.parser_definitions.specs.Outcome.{Does, Outcome, Setting, lacks_by, m
 use Rattle.parser_definitions.specs.Outcome.{outcome_of, setting_of}
 use Rattle.parser_definitions.specs.TakeWhile.{TakeWhileDoes}
 
--- What `does` says from `s`, `also` says from `q`.
+-- Each outcome of `does` from `s` is one of `also` from `q`.
 abbrev SaysAlso : {S Q T O : Type 0} → Does S T O → Does Q T O → S → Q → Type 0
 SaysAlso {S} {Q} {T} {O} does also s q = (at : Setting) (w : Left T) (x : Outcome (End S T) O)
     → does at s w x → also at q w (in_state (λ _. q) x)

@@ -23,7 +23,3 @@ same_kind e = cc
 pub at_output : {O : Type 0} {o p : O} (P : O → Type 0) → ◌≡◌ {A = Answer O} (Ok o) (Ok p) → P p
     → P o
 at_output P e told = subst P (sym (same_output e)) told
-
-pub at_kind : {O : Type 0} {k l : Kind} (P : Kind → Type 0) → ◌≡◌ {A = Answer O} (Err k) (Err l)
-    → P l → P k
-at_kind P e told = subst P (sym (same_kind e)) told
