@@ -11,6 +11,19 @@ use winnow::token::impls::Any;
 type Fails = ErrMode<EmptyError>;
 type Message = ContextError<&'static str>;
 
+/// A function with winnow's alias for its result.
+fn key<'i>(input: &mut &'i str) -> ModalResult<&'i str> {
+    Alpha1.parse_next(input)
+}
+
+#[test]
+fn results_have_a_mode(rt: HostRuntime) {
+    let read: Result<&str, Fails> = key(&mut "ab=");
+    assert_eq!(rt; read, Ok("ab"));
+    let message: ModalResult<&str, Message> = Digit1.parse_next(&mut "ab");
+    assert!(rt; matches!(message, Err(ErrMode::Backtrack(error)) if error.context().is_empty()));
+}
+
 #[test]
 fn out_of_memory_is_a_kind(rt: HostRuntime) {
     let heap = Refusing::always_from(rt.alloc(), 0);

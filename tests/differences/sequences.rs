@@ -16,14 +16,6 @@ fn members_nest(rt: HostRuntime) {
 }
 
 #[test]
-fn slices_are_counted_by_fold(rt: HostRuntime) {
-    let pairs = repeat(rt.alloc(), 0.., take(2_usize));
-    let mut lengths = pairs.fold(|| 0, |sum: usize, slice: &str| sum + slice.len());
-    let read: Result<usize, Fails> = lengths.parse_next(&mut "abcde");
-    assert_eq!(rt; read.ok(), Some(4));
-}
-
-#[test]
 fn maps_are_ordered(rt: HostRuntime) {
     let pair = (one_of('a'..='z'), DecUint);
     let mut pairs = repeat(rt.alloc(), 1.., pair);

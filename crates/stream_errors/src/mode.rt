@@ -4,6 +4,7 @@ ghost use Rattle.stream_errors.specs.Form.{modal, modal-not_plain};
 ghost use Rattle.stream_errors.specs.Join.{inner_grows, inner_join_grows};
 ghost use Rattle.stream_errors.specs.Mode.{mode_kind, as_inner, MapsMode};
 
+use crate::empty::EmptyError;
 use crate::has_kind::HasKind;
 use crate::parser_error::ParserError;
 use streams::needed::Needed;
@@ -27,6 +28,17 @@ pub enum ErrMode<E, N = Needed> {
     /// More input may change the result.
     Incomplete(N),
 }
+
+/// The result of a parser whose errors have a mode. winnow's default error is `ContextError`.
+///
+/// ```
+/// fn key<'i>(input: &mut &'i str) -> ModalResult<&'i str> {
+///     terminated(Alpha1, '=').parse_next(input)
+/// }
+///
+/// assert_eq!(rt; key(&mut "a=1"), Ok("a"));
+/// ```
+pub type ModalResult<O, E = EmptyError> = Result<O, ErrMode<E>>;
 
 impl<E, N> ErrMode<E, N> {
     /// Applies `f` to the inner error, and keeps the mode. `f` is called once, and not for an

@@ -50,6 +50,15 @@ list_kept = record {
   grows = λ list _. vec_capacity list ≤ vec_len list;
 }
 
+-- what it is to keep the items of slices in a list, in order
+abbrev pub slices_kept : {T A : Type 0} → Accumulator (Vec T A) (Bor (List T))
+slices_kept = record {
+  starts = λ _ list. list.items ≡ [];
+  takes = λ list slice more. more.items ≡ list.items ++ slice.now;
+  start_grows = λ _. ⊥;
+  grows = λ list slice. vec_capacity list < vec_len list + length slice.now;
+}
+
 -- what it is to keep the number of the outputs, or the greatest `usize` if there are more
 abbrev pub number_kept : {O : Type 0} → Accumulator ℕ O
 number_kept = record {

@@ -3,11 +3,12 @@ ghost use Rattle.std.specs.BTreeMap.{IsEmpty};
 ghost use Rattle.std.specs.Prelude.{List, ◌≡◌, [], MatchResult, string_bytes, ⊤};
 ghost use Rattle.stream_sets.specs.Accumulator.{Accumulator, Wants, characters_kept, entries_kept};
 ghost use Rattle.stream_sets.specs.Accumulator.{list_kept, nothing_kept, nothing_wants};
-ghost use Rattle.stream_sets.specs.Accumulator.{number_kept, number_wants, texts_kept};
+ghost use Rattle.stream_sets.specs.Accumulator.{number_kept, number_wants, slices_kept};
+ghost use Rattle.stream_sets.specs.Accumulator.{texts_kept};
 ghost use Rattle.stream_sets.specs.Accumulator.Holds.{Holds, HasCharacters, HasEntries, HasNumber};
-ghost use Rattle.stream_sets.specs.Accumulator.Holds.{HasTexts, characters_hold, entries_hold};
-ghost use Rattle.stream_sets.specs.Accumulator.Holds.{list_holds, nothing_holds, number_holds};
-ghost use Rattle.stream_sets.specs.Accumulator.Holds.{texts_hold};
+ghost use Rattle.stream_sets.specs.Accumulator.Holds.{HasItems, HasTexts, characters_hold};
+ghost use Rattle.stream_sets.specs.Accumulator.Holds.{entries_hold, items_hold, list_holds};
+ghost use Rattle.stream_sets.specs.Accumulator.Holds.{nothing_holds, number_holds, texts_hold};
 
 use std::alloc::{AllocError, Allocator};
 use std::collections::BTreeMap;
@@ -99,6 +100,38 @@ impl<O: Drop, A: Allocator> Accumulate<O, A> for Vec<O, A> {
     fn accumulate(&mut self, output: O) -> Result<(), AllocError> {
         self.push(output)?;
         Ok(())
+    }
+}
+
+/// A list to whose end the items of the slices are copied. An empty one takes no memory; a longer
+/// one allocates only if it has no room for a slice.
+///
+/// ```
+/// let list: Result<Vec<u8>, EmptyError> =
+///     separated(alloc, Range::from(0..), Digit1, b',').parse_next(&mut b"1,23".as_slice());
+/// assert!(rt; matches!(list, Ok(list) if list.as_slice() == b"123"));
+/// ```
+impl<'i, T: Copy + Drop, A: Allocator> Accumulate<&'i [T], A> for Vec<T, A> {
+    ghost accumulator = { slices_kept };
+
+    ghost holds = { HasItems };
+
+    ghost gathers = { items_hold };
+
+    ghost spares_memory = { ⊥ };
+
+    ghost never_wants = { λ never. absurd never };
+
+    #[inline(always)]
+    fn initial(alloc: A, _capacity: Option<usize>) -> Result<Vec<T, A>, AllocError>
+        ensures { MatchResult result (λ list. list.items ≡ []) (λ _. ⊥) }
+    {
+        Ok(Vec::new(alloc))
+    }
+
+    #[inline(always)]
+    fn accumulate(&mut self, output: &'i [T]) -> Result<(), AllocError> {
+        self.extend_from_slice(output)
     }
 }
 

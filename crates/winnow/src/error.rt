@@ -16,7 +16,7 @@ pub use stream_errors::has_kind::HasKind;
 pub use stream_errors::input_error::InputError;
 pub use stream_errors::messages::ShownBytes;
 pub use stream_errors::modal::ModalError;
-pub use stream_errors::mode::ErrMode;
+pub use stream_errors::mode::{ErrMode, ModalResult};
 pub use stream_errors::parser_error::ParserError;
 pub use stream_errors::recover::Recover;
 pub use stream_errors::recoverable::FromRecoverableError;

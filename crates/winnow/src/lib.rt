@@ -25,6 +25,7 @@ pub mod parsers;
 pub mod prelude;
 pub mod stream;
 
+pub use stream_errors::mode::ModalResult;
 pub use winnow_core::parser::{Func, FuncWith, ModalParser, Parser};
 pub use winnow_recovery::{RecoverableParser, RecoveringParser};
 pub use winnow_token::token;

@@ -120,6 +120,25 @@ fn separated_into_a_string(rt: HostRuntime) {
     }
 }
 
+/// Slices joined in a list, and a refused allocation that leaves what was accumulated.
+#[test]
+fn separated_into_a_list_of_slices(rt: HostRuntime) {
+    for (text, want, left) in [("3,21,4;", "3214", 1), ("12,", "12", 1), (";", "", 1)] {
+        let mut input = text.as_bytes();
+        let read: Result<Vec<u8>, Modal> =
+            winnow_separated::combinator::separated(rt.alloc(), 0.., Digit1, b',')
+                .parse_next(&mut input);
+        let same_items = matches!(read, Ok(list) if list.as_slice() == want.as_bytes());
+        assert!(rt; same_items, "{}", text);
+        assert_eq!(rt; input.len(), left);
+    }
+    let heap = Refusing::always_from(rt.alloc(), 0);
+    let mut list: Vec<u8, &Refusing<Global>> = Vec::new(&heap);
+    let slice: &[u8] = b"12";
+    assert!(rt; Accumulate::<&[u8], &Refusing<Global>>::accumulate(&mut list, slice).is_err());
+    assert!(rt; list.is_empty());
+}
+
 /// One run of a repetition till a semicolon.
 fn till_semicolon<O, C, P>(
     alloc: Global,

@@ -12,10 +12,10 @@ use Rattle.std.specs.declared.vec.Vec.{Vec}
 use Rattle.std.proofs.Common.{sym, ap, ◌∙◌, append_assoc}
 use Rattle.std.proofs.lemmas.List.{append-nil}
 use Rattle.stream_sets.specs.Accumulator.{characters_kept, entries_kept, list_kept, nothing_kept}
-use Rattle.stream_sets.specs.Accumulator.{number_kept, texts_kept, Accumulator}
+use Rattle.stream_sets.specs.Accumulator.{number_kept, slices_kept, texts_kept, Accumulator}
 use Rattle.stream_sets.specs.Accumulator.Entries.{key_of_outputs, value_of_outputs}
-use Rattle.stream_sets.specs.Accumulator.Inversion.{number_of_outputs, text_of_characters}
-use Rattle.stream_sets.specs.Accumulator.Inversion.{text_of_texts}
+use Rattle.stream_sets.specs.Accumulator.Inversion.{items_of_slices, number_of_outputs}
+use Rattle.stream_sets.specs.Accumulator.Inversion.{text_of_characters, text_of_texts}
 
 -- what a list has taken
 listed : {O A : Type 0} (before after : Vec O A) (outputs : List O)
@@ -60,6 +60,10 @@ HasCharacters text os = string_bytes text ≡ encode_utf8_all os
 abbrev pub HasTexts : {A : Type 0} → String A → List (Bor (List ℕ)) → Type 0
 HasTexts text os = string_bytes text ≡ flat_map (λ o. o.now) os
 
+-- the items of the slices, in sequence
+abbrev pub HasItems : {T A : Type 0} → Vec T A → List (Bor (List T)) → Type 0
+HasItems list os = list.items ≡ flat_map (λ slice. slice.now) os
+
 -- A key has the value of the last pair whose key is equal, and is the key of the first of these.
 pub record HasEntries {K X : Type 0} (cmp : K → K → Ordering) (map : BTreeMap K X)
     (os : List (K × X)) : Type 0 where
@@ -69,6 +73,11 @@ pub record HasEntries {K X : Type 0} (cmp : K → K → Ordering) (map : BTreeMa
 pub number_holds : {O : Type 0} → Holds (number_kept {O = O}) HasNumber
 number_holds = record {
   held = λ capacity empty all os starts taken. number_of_outputs os empty all starts taken.taken;
+}
+
+pub items_hold : {T A : Type 0} → Holds (slices_kept {T = T} {A = A}) HasItems
+items_hold = record {
+  held = λ capacity empty all os starts taken. items_of_slices os empty all starts taken.taken;
 }
 
 pub characters_hold : {A : Type 0} → Holds (characters_kept {A = A}) HasCharacters

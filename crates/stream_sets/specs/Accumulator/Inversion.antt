@@ -10,7 +10,7 @@ use Rattle.std.specs.declared.vec.Vec.{Vec}
 use Rattle.std.proofs.Common.{ap, arith, refl, sym, ◌∙◌, append_assoc}
 use Rattle.std.proofs.lemmas.List.{append-nil}
 use Rattle.stream_sets.specs.Accumulator.{Accumulator, characters_kept, list_kept, number_kept}
-use Rattle.stream_sets.specs.Accumulator.{spelled, texts_kept}
+use Rattle.stream_sets.specs.Accumulator.{slices_kept, spelled, texts_kept}
 
 -- ---- lists
 
@@ -32,6 +32,23 @@ list_of_outputs {O} {A} outputs empty all start taken =
     let into : Accumulator (Vec O A) O = list_kept in
     outputs_kept into.takes (λ list. list.items) (λ c o d kept. kept) outputs empty all taken
     ∙ ap (λ l. l ++ outputs) start
+
+-- the items of lists, in sequence, after those that were there
+items_more : {T A : Type 0} (outputs : List (Bor (List T))) (list all : Vec T A)
+    → FoldsTo slices_kept.takes list outputs all
+    → all.items ≡ list.items ++ flat_map (λ slice. slice.now) outputs
+items_more [] list all e = sym (append-nil list.items ∙ ap (λ l. l.items) e)
+items_more (o ∷ os) list all (more, taken, rest) =
+    items_more os more all rest ∙ ap (λ l. l ++ flat_map (λ slice. slice.now) os) taken
+    ∙ append_assoc list.items o.now (flat_map (λ slice. slice.now) os)
+
+-- a list that was empty has the items of the slices that it took, in order
+pub items_of_slices : {T A : Type 0} (outputs : List (Bor (List T))) (empty all : Vec T A)
+    → slices_kept.starts None empty → FoldsTo slices_kept.takes empty outputs all
+    → all.items ≡ flat_map (λ slice. slice.now) outputs
+items_of_slices outputs empty all start taken =
+    items_more outputs empty all taken
+    ∙ ap (λ l. l ++ flat_map (λ slice. slice.now) outputs) start
 
 -- ---- numbers
 
