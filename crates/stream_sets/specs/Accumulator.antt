@@ -17,16 +17,16 @@ pub mod Inversion
 
 -- An accumulator, as a repetition uses it.
 pub record Accumulator (C O : Type 0) : Type 1 where
-  -- the empty ones, made for that many outputs where that is known
+  -- the empty ones, made for a number of outputs if it is known
   pub starts : Option ℕ → C → Type 0
-  -- one that takes an output, and what it is then
+  -- the accumulator before and after it takes an output
   pub takes : C → O → C → Type 0
-  -- whether a request for memory may be refused where an empty one is made for that many outputs
+  -- whether an allocation may fail for an empty one, made for this number of outputs
   pub start_grows : Option ℕ → Type 0
-  -- the ones for which one may be refused where they take this output
+  -- the accumulators for which one may fail when they take this output
   pub grows : C → O → Type 0
 
--- A request for memory may be refused: where an empty one is made, or where one takes an output.
+-- An allocation may fail: for an empty one, or for one that takes an output.
 abbrev pub Wants : {C O : Type 0} → Accumulator C O → Type 0
 Wants {C} {O} into =
     ((capacity : Option ℕ) × into.start_grows capacity)
