@@ -8,7 +8,7 @@ Run it at the top of the repository, and then `rt fmt` in the crates that it nam
 It generates:
 
 - in `stream_sets`, the sets that are tuples;
-- in `winnow_core`, the impls of sequences (tuples of one to six);
+- in `winnow_core`, the impls of sequences (tuples of one to eleven);
 - in `winnow_comb`, those of choices between one to nine branches, with their laws;
 - in `winnow_ascii`, the parsers of character classes;
 - in `winnow_integers` and `winnow_binary`, the parsers of integers;

@@ -9,13 +9,6 @@ use winnow::token::{one_of, take};
 type Fails = ErrMode<EmptyError>;
 
 #[test]
-fn members_nest(rt: HostRuntime) {
-    let mut parts = ('a', 'b', 'c', 'd', 'e', ('f', 'g'));
-    let read: Result<_, Fails> = parts.parse_next(&mut "abcdefg");
-    assert_eq!(rt; read.ok(), Some(('a', 'b', 'c', 'd', 'e', ('f', 'g'))));
-}
-
-#[test]
 fn maps_are_ordered(rt: HostRuntime) {
     let pair = (one_of('a'..='z'), DecUint);
     let mut pairs = repeat(rt.alloc(), 1.., pair);

@@ -55,6 +55,45 @@ fn tuples(rt: HostRuntime) {
     tuple::<&[u8], InputError<&'static [u8]>>(&rt);
 }
 
+/// The texts with an `x` where one of the letters a to k is expected.
+const BROKEN: [&str; 11] = [
+    "x", "ax", "abx", "abcx", "abcdx", "abcdex", "abcdefx", "abcdefgx", "abcdefghx", "abcdefghix",
+    "abcdefghijx",
+];
+
+/// Runs a tuple of the first `count` letters on all of them, and on each text with an `x` among them.
+fn letters<'i, O, P: Parser<&'i str, O, Modal>>(rt: &impl Abort, count: usize, mut parser: P) {
+    let mut input = "abcdefghijk;";
+    assert!(rt; parser.parse_next(&mut input).is_ok(), "{}", count);
+    assert_eq!(rt; input.len(), 12 - count);
+    for text in &BROKEN[..count] {
+        let mut input = *text;
+        let read = parser.parse_next(&mut input);
+        assert!(rt; matches!(read, Err(ErrMode::Backtrack(_))), "{} {}", count, text);
+        assert_eq!(rt; input, "x");
+    }
+}
+
+/// Tuples of seven to eleven: all members run in order, and the outputs have it.
+#[test]
+fn long_tuples(rt: HostRuntime) {
+    letters(&rt, 7, ('a', 'b', 'c', 'd', 'e', 'f', 'g'));
+    letters(&rt, 8, ('a', 'b', 'c', 'd', 'e', 'f', 'g', 'h'));
+    letters(&rt, 9, ('a', 'b', 'c', 'd', 'e', 'f', 'g', 'h', 'i'));
+    letters(&rt, 10, ('a', 'b', 'c', 'd', 'e', 'f', 'g', 'h', 'i', 'j'));
+    let eleven = ('a', 'b', 'c', 'd', 'e', 'f', 'g', 'h', 'i', 'j', 'k');
+    letters(&rt, 11, eleven);
+    let mut any = (Any, Any, Any, Any, Any, Any, Any, Any, Any, Any, Any);
+    let read: Result<_, Modal> = any.parse_next(&mut "0123456789a");
+    let Ok((a, b, c, d, e, f, g, h, i, j, k)) = read else {
+        panic!(rt; "no outputs");
+    };
+    let outputs = [a, b, c, d, e, f, g, h, i, j, k];
+    for (output, want) in outputs.iter().zip("0123456789a".chars()) {
+        assert_eq!(rt; *output, want);
+    }
+}
+
 /// A closure as a parser.
 #[test]
 fn func(rt: HostRuntime) {

@@ -32,6 +32,7 @@ pub mod Settled
 pub mod Then
 pub mod Tills
 pub mod Tokens
+pub mod Tuples
 pub mod Within
 
 -- How a parser is called on complete input: the form of its errors, and whether the tokens can be

@@ -1,4 +1,4 @@
--- The definitions of tuples of up to six children, of sequences of three with an output, and of
+-- The definitions of tuples of up to three children, of sequences of three with an output, and of
 -- `preceded` and `terminated`.
 use Rattle.std.specs.Prelude.{⊤}
 use Rattle.parser_definitions.specs.Both.{BothDo, both_law}

@@ -1,6 +1,6 @@
 -- Calls of combinators, by the calls of their children.
 use Rattle.std.specs.Prelude.{◌≡◌, Ok, Err}
-use Rattle.std.proofs.Common.{refl, sym, subst, ap, ◌∙◌}
+use Rattle.std.proofs.Common.{refl, sym, subst, ◌∙◌}
 use Rattle.streams.specs.Input.{Input, back_at, is_end_of_back, is_end_of_trans}
 use Rattle.streams.specs.Kind.{Kind, backtrack, cut, incomplete, memory}
 use Rattle.streams.specs.Reading.{Reading}
@@ -12,8 +12,6 @@ use Rattle.parser_definitions.specs.Errors.{TurnsAny, kept_does}
 use Rattle.parser_definitions.specs.Left.{End, Left, back, left_of}
 use Rattle.parser_definitions.specs.Moved.{moved}
 use Rattle.parser_definitions.specs.Outcome.{Does, outcome_of, setting_of, took}
-use Rattle.parser_definitions.specs.Sequence.{ThreeDo, second3, third3, with_first3, with_second3}
-use Rattle.parser_definitions.specs.Sequence.{with_third3}
 use Rattle.parser_definitions.specs.Settles.{Alone, Settle, SettlesDo, settled}
 use Rattle.parser_definitions.specs.Outputs.{Makes, OutputDoes}
 use Rattle.parser_definitions.specs.Then.{ComesOf}
@@ -221,115 +219,48 @@ module _ {S1 S2 T L O1 O2 O : Type 0} (reading : Reading T L) (output : O1 → O
     )
 
 -- a tuple of the members of `front` and of `last`
-pub joined_ran : {P S1 S2 T L O1 O2 O : Type 0} (reading : Reading T L) (split : P → S1 × S2)
+module _ {P S1 S2 T L O1 O2 O : Type 0} (reading : Reading T L) (split : P → S1 × S2)
     (join : S1 → S2 → P) (output : O1 → O2 → O) (front : Does S1 T O1) (last : Does S2 T O2)
-    (form : ErrorForm) (s t : P) (i : Input T) (a b : Answer O) (j : Input T)
-    → join (split t).0 (split t).1 ≡ t → b ≡ a
-    → Ran reading (BothDo output front last) form (split s) i a (split t) j
-    → Ran reading (JoinedDo split join output front last) form s i b t j
-joined_ran {P} {S1} {S2} {T} {O = O} reading split join output front last form s t i a b j whole is
-    ran =
-    let put : P → S1 × S2 → P = λ q t. join t.0 t.1 in
-    let Q : Answer O → Type 0 = λ z.
-    Ran reading (JoinedDo split join output front last) form s i z t j in
-    let Comes : P → Type 0 = λ z. ComesOf (hands_on {T = T} {O = O} put) (setting_of form i) s
-    (left_of i) (outcome_of a (split t, left_of j)) (outcome_of a (z, left_of j)) in
-    subst Q (sym is) (
-      ran.0,
-      ran.1,
-      ran.2,
-      (
-        outcome_of a (split t, left_of j),
-        ran.3,
-        subst Comes whole
-            (handed put (setting_of form i) s (left_of i) a (split t) (left_of j)),
-      ),
-    )
-
--- three children, of which one fails, or none
-module _ {S1 S2 S3 T L O1 O2 O3 O : Type 0} (reading : Reading T L) (output : O1 → O2 → O3 → O)
-    (does1 : Does S1 T O1) (does2 : Does S2 T O2) (does3 : Does S3 T O3) (form : ErrorForm)
-    (s t : S1 × S2 × S3) (i j : Input T) where
-  pub first_of_three_fails : (k : Kind) → Ran reading does1 form s.0 i (Err k) t.0 j → t.1 ≡ s.1
-      → t.2 ≡ s.2 → Ran reading (ThreeDo output does1 does2 does3) form s i (Err k) t j
-  first_of_three_fails k ran kept same = (
-    ran.0,
-    ran.1,
-    ran.2,
-    (
-      outcome_of (Err k) (t.0, left_of j),
-      ran.3,
-      failed with_first3 (λ o1. then_next with_first3 second3 does2 (where_took with_second3 (λ o2.
-          then_next with_second3 third3 does3 (where_took with_third3 (λ o3.
-          takes with_third3 (output o1 o2 o3)))))) (setting_of form i) s (left_of i) k (left_of j)
-          t.0 t (Err k) refl (ap (λ y. (t.0, y, t.2)) kept ∙ ap (λ z. (t.0, s.1, z)) same),
-    ),
-  )
-
-  module _ (o1 : O1) (m : Input T) (ran1 : Ran reading does1 form s.0 i (Ok o1) t.0 m) where
-    pub second_of_three_fails : (k : Kind) → Ran reading does2 form s.1 m (Err k) t.1 j
-        → t.2 ≡ s.2 → Ran reading (ThreeDo output does1 does2 does3) form s i (Err k) t j
-    second_of_three_fails k ran2 same = (
-      is_end_of_trans ran2.0 ran1.0,
-      ran2.1 ∙ ran1.1,
-      ran2.2 ∙ ran1.2,
-      (
-        took o1 (t.0, left_of m),
-        ran1.3,
+    (form : ErrorForm) (s t : P) (i j : Input T) (whole : join (split t).0 (split t).1 ≡ t) where
+  joined_ran : (a b : Answer O) → b ≡ a
+      → Ran reading (BothDo output front last) form (split s) i a (split t) j
+      → Ran reading (JoinedDo split join output front last) form s i b t j
+  joined_ran a b is ran =
+      let put : P → S1 × S2 → P = λ q t. join t.0 t.1 in
+      let Q : Answer O → Type 0 = λ z.
+      Ran reading (JoinedDo split join output front last) form s i z t j in
+      let Comes : P → Type 0 = λ z. ComesOf (hands_on {T = T} {O = O} put) (setting_of form i) s
+      (left_of i) (outcome_of a (split t, left_of j)) (outcome_of a (z, left_of j)) in
+      subst Q (sym is) (
+        ran.0,
+        ran.1,
+        ran.2,
         (
-          outcome_of (Err k) (t.1, left_of j),
-          there reading does2 form i m j s.1 t.1 (Err k) ran1.1 ran1.2 ran2,
-          failed with_second3 (λ o2. then_next with_second3 third3 does3
-              (where_took with_third3 (λ o3. takes with_third3 (output o1 o2 o3))))
-              (setting_of form i) (with_first3 s t.0) (left_of m) k (left_of j) t.1 t (Err k) refl
-              (ap (λ z. (t.0, t.1, z)) same),
-        ),
-      ),
-    )
-
-    module _ (o2 : O2) (n : Input T) (ran2 : Ran reading does2 form s.1 m (Ok o2) t.1 n) where
-      pub third_of_three_fails : (k : Kind) → Ran reading does3 form s.2 n (Err k) t.2 j
-          → Ran reading (ThreeDo output does1 does2 does3) form s i (Err k) t j
-      third_of_three_fails k ran3 = (
-        is_end_of_trans ran3.0 (is_end_of_trans ran2.0 ran1.0),
-        ran3.1 ∙ ran2.1 ∙ ran1.1,
-        ran3.2 ∙ ran2.2 ∙ ran1.2,
-        (
-          took o1 (t.0, left_of m),
-          ran1.3,
-          (
-            took o2 (t.1, left_of n),
-            there reading does2 form i m n s.1 t.1 (Ok o2) ran1.1 ran1.2 ran2,
-            (
-              outcome_of (Err k) (t.2, left_of j),
-              there reading does3 form i n j s.2 t.2 (Err k) (ran2.1 ∙ ran1.1) (ran2.2 ∙ ran1.2)
-                  ran3,
-              failed with_third3 (λ o3. takes with_third3 (output o1 o2 o3)) (setting_of form i)
-                  (with_second3 (with_first3 s t.0) t.1) (left_of n) k (left_of j) t.2 t (Err k)
-                  refl refl,
-            ),
-          ),
+          outcome_of a (split t, left_of j),
+          ran.3,
+          subst Comes whole
+              (handed put (setting_of form i) s (left_of i) a (split t) (left_of j)),
         ),
       )
 
-      pub three_succeed : (o3 : O3) → Ran reading does3 form s.2 n (Ok o3) t.2 j
-          → Ran reading (ThreeDo output does1 does2 does3) form s i (Ok (output o1 o2 o3)) t j
-      three_succeed o3 ran3 = (
-        is_end_of_trans ran3.0 (is_end_of_trans ran2.0 ran1.0),
-        ran3.1 ∙ ran2.1 ∙ ran1.1,
-        ran3.2 ∙ ran2.2 ∙ ran1.2,
-        (
-          took o1 (t.0, left_of m),
-          ran1.3,
-          (
-            took o2 (t.1, left_of n),
-            there reading does2 form i m n s.1 t.1 (Ok o2) ran1.1 ran1.2 ran2,
-            (
-              took o3 (t.2, left_of j),
-              there reading does3 form i n j s.2 t.2 (Ok o3) (ran2.1 ∙ ran1.1) (ran2.2 ∙ ran1.2)
-                  ran3,
-              refl,
-            ),
-          ),
-        ),
-      )
+  -- one of the first members fails
+  pub front_fails : (k : Kind) (b : Answer O) → b ≡ Err k
+      → Ran reading front form (split s).0 i (Err k) (split t).0 j → (split t).1 ≡ (split s).1
+      → Ran reading (JoinedDo split join output front last) form s i b t j
+  front_fails k b is ran kept = joined_ran (Err k) b is
+      (first_fails reading output front last form (split s) (split t) i j k ran kept)
+
+  module _ (o1 : O1) (m : Input T)
+      (ran1 : Ran reading front form (split s).0 i (Ok o1) (split t).0 m) where
+    -- the last fails
+    pub last_fails : (k : Kind) (b : Answer O) → b ≡ Err k
+        → Ran reading last form (split s).1 m (Err k) (split t).1 j
+        → Ran reading (JoinedDo split join output front last) form s i b t j
+    last_fails k b is ran2 = joined_ran (Err k) b is
+        (second_fails reading output front last form (split s) (split t) i j o1 m ran1 k ran2)
+
+    -- all succeed
+    pub all_succeed : (o2 : O2) → Ran reading last form (split s).1 m (Ok o2) (split t).1 j
+        → Ran reading (JoinedDo split join output front last) form s i (Ok (output o1 o2)) t j
+    all_succeed o2 ran2 = joined_ran (Ok (output o1 o2)) (Ok (output o1 o2)) refl
+        (both_succeed reading output front last form (split s) (split t) i j o1 m ran1 o2 ran2)
