@@ -1,12 +1,13 @@
 -- The definitions of `length_take`, `length_and_then` and `length_repeat`.
-use Rattle.std.specs.Prelude.{◌≡◌, ⊤, ℕ, Bool, false, List, length, Option}
+use Rattle.std.specs.Prelude.{◌≡◌, ⊤, ℕ, Bool, false, List, length}
 use Rattle.std.proofs.Common.{refl, sym, ap, subst, arith, ◌∙◌, length-append}
 use Rattle.streams.specs.Reading.{Reading}
 use Rattle.parser_definitions.specs.Cases.{LacksWhere, OneCase, cases_law, lacks_law}
 use Rattle.parser_definitions.specs.Does.{Lawful}
 use Rattle.parser_definitions.specs.Left.{End, Left, extend}
-use Rattle.parser_definitions.specs.Outcome.{Alike, Does, Outcome, Setting, alike_wants, as_longer}
-use Rattle.parser_definitions.specs.Outcome.{asks, backs, both, by_alike, cuts, longer, took, wants}
+use Rattle.parser_definitions.specs.MapErr.{CompleteErrDoes, complete_err_law}
+use Rattle.parser_definitions.specs.Moved.{moved, moved_alike, moved_asks, moved_longer}
+use Rattle.parser_definitions.specs.Outcome.{Alike, Does, Outcome, Setting, as_longer, both}
 use Rattle.parser_definitions.specs.Passed.{Passed, passed_longer}
 use Rattle.parser_definitions.specs.Shown.{passed_as_many}
 use Rattle.parser_definitions.specs.Spelled.{ShowSame}
@@ -70,22 +71,18 @@ on_their_own at = record { form = at.form; more = false; possible = at.possible 
 abbrev pub only : {T : Type 0} → List T → Left T → Left T
 only taken w = record w { tokens = taken }
 
--- the outcome with the rest `rest`: the tokens after the child's match are discarded, and
--- `Incomplete` is a backtrack
+-- the outcome with the rest `rest`
 abbrev pub leaving : {S T O : Type 0} → Left T → Outcome (End S T) O → Outcome (End S T) O
-leaving rest (took o end) = took o (end.0, rest)
-leaving rest (backs end) = backs (end.0, rest)
-leaving rest (cuts end) = cuts (end.0, rest)
-leaving rest (asks need end) = backs (end.0, rest)
-leaving rest wants = wants
+leaving rest = moved (λ e. (e.0, rest)) (λ e. (e.0, rest))
 
 module _ {S T L O : Type 0} (reading : Reading T L) where
-  -- The first `n` tokens are passed, and the child is called on them as a complete input.
+  -- The first `n` tokens are passed, and the child is called on them as a complete input: what it
+  -- leaves of them is discarded, and `Incomplete` is a backtrack.
   abbrev pub WithTaken : Does S T O → ℕ → Does S T O
   WithTaken does n at s w y =
       (taken : List T) × (rest : Left T) × (x : Outcome (End S T) O) × (length taken ≡ n)
-      × Passed reading taken w rest × does (on_their_own at) s (only taken w) x
-      × (y ≡ leaving rest x)
+      × Passed reading taken w rest
+      × CompleteErrDoes does (on_their_own at) s (only taken w) x × (y ≡ leaving rest x)
 
   abbrev pub TakenDo : Bool → Does S T O → ℕ → Does S T O
   TakenDo counts does n =
@@ -94,40 +91,23 @@ module _ {S T L O : Type 0} (reading : Reading T L) where
       -- too few tokens remain, and the child is not called
       (LacksWhere (missing_from reading counts (λ s. n)) (AreTooFew reading counts (λ s. n)))
 
-  leaving_alike : (alike : O → O → Type 0) (rest : Left T) (x y : Outcome (End S T) O)
-      → Alike alike x y → Alike alike (leaving rest x) (leaving rest y)
-  leaving_alike alike rest =
-      by_alike {alike = alike} (λ x y. Alike alike (leaving rest x) (leaving rest y))
-      (λ o p end is. (is, refl)) (λ end. refl) (λ end. refl) (λ need end. refl)
-      (λ y. tt) (λ x. alike_wants alike (leaving rest x))
-
-  never_asks : (rest : Left T) (x : Outcome (End S T) O) (need : Option ℕ) (last : End S T)
-      → ◌≡◌ {A = Outcome (End S T) O} (asks need last) (leaving rest x) → ⊥
-  never_asks rest (took o end) need last e = absurd (cc)
-  never_asks rest (backs end) need last e = absurd (cc)
-  never_asks rest (cuts end) need last e = absurd (cc)
-  never_asks rest (asks other end) need last e = absurd (cc)
-  never_asks rest wants need last e = absurd (cc)
-
-  longer_leaving : (rest : Left T) (more : List T) (x : Outcome (End S T) O)
-      → longer more (leaving rest x) ≡ leaving (extend more rest) x
-  longer_leaving rest more (took o end) = refl
-  longer_leaving rest more (backs end) = refl
-  longer_leaving rest more (cuts end) = refl
-  longer_leaving rest more (asks other end) = refl
-  longer_leaving rest more wants = refl
-
   module _ {stable : Type 0} {alike : O → O → Type 0} {does : Does S T O} (counts : Bool)
       (law : Lawful stable alike does) (n : ℕ) where
     with_law : Lawful ⊤ alike (WithTaken does n)
     with_law = record {
       one = λ at s w y z (f, rest, x, many, p, d, e) (g, end, v, too, q, c, h).
           let (same, left) = passed_as_many (many ∙ sym too) p q in
-          let P : List T → Type 0 = λ l. does (on_their_own at) s (only l w) v in
+          let P : List T → Type 0 = λ l. CompleteErrDoes does (on_their_own at) s (only l w) v in
           let Q : Left T → Type 0 = λ l. Alike alike (leaving rest x) (leaving l v) in
-          both alike e h (subst Q left (leaving_alike alike rest x v
-          (law.one (on_their_own at) s (only f w) x v d (subst P (sym same) c))));
-      whole = λ at s w need last is (f, rest, x, many, p, d, e). never_asks rest x need last e;
+          both alike e h (subst Q left (moved_alike alike (λ e. (e.0, rest)) (λ e. (e.0, rest)) x v
+          ((complete_err_law law).one (on_their_own at) s (only f w) x v d
+          (subst P (sym same) c))));
+      whole = λ at s w need last is (f, rest, x, many, p, d, e).
+          let (end, asked) = moved_asks (λ e. (e.0, rest)) (λ e. (e.0, rest)) x need last e in
+          let P : Outcome (End S T) O → Type 0 =
+          λ z. CompleteErrDoes does (on_their_own at) s (only f w) z in
+          (complete_err_law law).whole (on_their_own at) s (only f w) need end refl
+          (subst P asked d);
       stays = λ is more flag s w y final (f, rest, x, many, p, d, e). (
         f,
         extend more rest,
@@ -135,7 +115,7 @@ module _ {S T L O : Type 0} (reading : Reading T L) where
         many,
         passed_longer more p,
         d,
-        as_longer more e ∙ longer_leaving rest more x,
+        as_longer more e ∙ moved_longer more (λ e. e.0) rest rest x,
       );
     }
 

@@ -122,7 +122,7 @@ pub use Rattle.parser_definitions.specs.Closures
 pub use Rattle.parser_definitions.specs.Consumes
 pub use Rattle.parser_definitions.specs.Digits
 pub use Rattle.parser_definitions.specs.Does
-pub use Rattle.parser_definitions.specs.Eof as EofDefinition
+pub use Rattle.parser_definitions.specs.Eof
 pub use Rattle.parser_definitions.specs.Equal as EqualDefinition
 pub use Rattle.parser_definitions.specs.Errors
 pub use Rattle.parser_definitions.specs.Escaped as EscapedDefinition
@@ -194,11 +194,9 @@ pub use Rattle.winnow_core.specs.CompleteErr
 pub use Rattle.winnow_core.specs.Context
 pub use Rattle.winnow_core.specs.Covers
 pub use Rattle.winnow_core.specs.Decided
-pub use Rattle.winnow_core.specs.Eof
 pub use Rattle.winnow_core.specs.Exact
 pub use Rattle.winnow_core.specs.FlatMap
 pub use Rattle.winnow_core.specs.Func
-pub use Rattle.winnow_core.specs.Literal
 pub use Rattle.winnow_core.specs.Longer
 pub use Rattle.winnow_core.specs.Parse
 pub use Rattle.winnow_core.specs.ParseIter

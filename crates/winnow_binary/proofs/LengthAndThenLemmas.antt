@@ -1,19 +1,16 @@
 -- A child on the first tokens as a complete input.
-use Rattle.std.specs.Prelude.{◌≡◌, Bool, false, List, Err}
-use Rattle.std.proofs.Common.{refl, ap, inl, inr, ◌∙◌}
+use Rattle.std.specs.Prelude.{◌≡◌, Bool, false, List, Ok, Err}
+use Rattle.std.proofs.Common.{refl, ap, ◌∙◌}
 use Rattle.streams.specs.Input.{Input, Status, Takes}
-use Rattle.streams.specs.Kind.{Kind, backtrack, cut, incomplete, memory}
+use Rattle.streams.specs.Kind.{backtrack, cut, incomplete, memory}
 use Rattle.streams.specs.Place.{Place}
 use Rattle.streams.specs.Reading.{Reading, ShowsOneList}
 use Rattle.streams.specs.Stream.{IsUpdate, update_begins, update_tokens}
-use Rattle.stream_errors.specs.Form.{Answer, ErrorForm}
-use Rattle.parser_definitions.specs.Does.{Ran}
-use Rattle.parser_definitions.specs.Left.{End, Left, left_of}
+use Rattle.stream_errors.specs.Form.{Answer}
+use Rattle.parser_definitions.specs.Left.{Left}
 use Rattle.parser_definitions.specs.Length.{leaving}
-use Rattle.parser_definitions.specs.Outcome.{Does, Outcome, outcome_of, setting_of, took}
+use Rattle.parser_definitions.specs.Outcome.{outcome_of}
 use Rattle.winnow_core.specs.AndThen.{completed}
-use Rattle.winnow_core.specs.CompleteErr.{CompleteErrRuns, complete_kind}
-use Rattle.winnow_core.specs.Covers.{gave}
 
 -- the tokens `taken` as a complete input at the same position
 abbrev pub only_first : {T : Type 0} → List T → Input T → Input T
@@ -49,25 +46,11 @@ only_first_is {taken = taken} {earlier = earlier} {later = later} {now = now} on
     (update_begins takes update) (update.possible ∙ takes.passed.possible)
     (ap (λ (s : Status). record s { cut = false }) (update.status ∙ takes.passed.status))
 
--- the outcome of an error inside
-inside_failed : {S T O : Type 0} (rest : Left T) (k : Kind) (s : S) (end : Left T)
-    → ◌≡◌ {A = Outcome (End S T) O} (outcome_of (Err (complete_kind k)) (s, rest))
-    (leaving rest (outcome_of (Err k) (s, end)))
-inside_failed rest backtrack s end = refl
-inside_failed rest cut s end = refl
-inside_failed rest (incomplete need) s end = refl
-inside_failed rest memory s end = refl
-
 -- the whole's outcome, from the child's
-pub inside : {S T L O : Type 0} (reading : Reading T L) (does : Does S T O) (form : ErrorForm)
-    (rest : Left T) (s : S) (i : Input T) (answer : Answer O) (t : S) (j : Input T)
-    → CompleteErrRuns (Ran reading does form) s i answer t j
-    → (x : Outcome (End S T) O) × does (setting_of form i) s (left_of i) x
-    × (outcome_of answer (t, rest) ≡ leaving rest x)
-inside reading does form rest s i answer t j (inl (o, ran, e)) =
-    (took o (t, left_of j), ran.3, gave (t, rest) e)
-inside reading does form rest s i answer t j (inr (k, ran, e)) = (
-  outcome_of (Err k) (t, left_of j),
-  ran.3,
-  gave (t, rest) e ∙ inside_failed rest k t (left_of j),
-)
+pub inside : {S T O : Type 0} (rest end : Left T) (answer : Answer O) (t : S)
+    → outcome_of answer (t, rest) ≡ leaving rest (outcome_of answer (t, end))
+inside rest end (Ok o) t = refl
+inside rest end (Err backtrack) t = refl
+inside rest end (Err cut) t = refl
+inside rest end (Err (incomplete need)) t = refl
+inside rest end (Err memory) t = refl

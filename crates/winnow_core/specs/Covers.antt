@@ -6,7 +6,7 @@ use Rattle.streams.specs.Kind.{Kind, backtrack, cut, incomplete, memory}
 use Rattle.streams.specs.Reading.{Reading}
 use Rattle.stream_errors.specs.Form.{Answer}
 use Rattle.stream_errors.specs.Form.{ErrorForm}
-use Rattle.winnow_core.specs.Runs.{Keeps, LeaveEnds, Runs}
+use Rattle.winnow_core.specs.Runs.{LeaveEnds, Runs}
 use Rattle.parser_definitions.specs.Does.{Ran}
 use Rattle.parser_definitions.specs.Left.{End, Left, left_of}
 use Rattle.parser_definitions.specs.Outcome.{Does, Outcome, Setting, outcome_of, setting_of}
@@ -133,23 +133,3 @@ handed put at q w (Err backtrack) s end = refl
 handed put at q w (Err cut) s end = refl
 handed put at q w (Err (incomplete need)) s end = refl
 handed put at q w (Err memory) s end = refl
-
--- ---- parsers without a state that changes
-
--- Such a parser is covered if each of its calls has an outcome of the definition, and leaves a
--- suffix of its input.
-pub kept_covered : {S T L O : Type 0} (reading : Reading T L)
-    (runs : S → Input T → Answer O → Input T → Type 0) (does : Does S T O) (at : Setting)
-    → ((s : S) (i : Input T) (a : Answer O) (j : Input T) → runs s i a j
-    → does (setting_of at.form i) s (left_of i) (outcome_of a (s, left_of j)))
-    → ((s : S) (i : Input T) (a : Answer O) (j : Input T) → runs s i a j → IsEndOf reading j i)
-    → Covers at (Keeps runs) does
-kept_covered {S} {T} {O = O} reading runs does at did ends = record { covers = call }
-  where
-    call : Calls at (Keeps runs) does
-    call s i a t j here (r, kept) =
-        let P : S → Type 0 = λ z. does at s (left_of i) (outcome_of a (z, left_of j)) in (
-          subst P (sym kept) (subst (λ z. does z s (left_of i) (outcome_of a (s, left_of j)))
-              (at_setting here) (did s i a j r)),
-          at_end here (ends s i a j r),
-        )

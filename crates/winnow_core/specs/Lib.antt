@@ -9,12 +9,10 @@ pub mod Covers
 pub mod Decided
 pub mod Elements
 pub mod Ends
-pub mod Eof
 pub mod Exact
 pub mod FlatMap
 pub mod Func
 pub mod Laws
-pub mod Literal
 pub mod Longer
 pub mod Parse
 pub mod ParseIter

@@ -1,5 +1,4 @@
 -- Relations of the calls of a parser.
-use Rattle.std.specs.Prelude.{◌≡◌}
 use Rattle.streams.specs.Input.{Input, IsEndOf}
 use Rattle.streams.specs.Reading.{Reading}
 use Rattle.stream_errors.specs.Form.{Answer}
@@ -14,7 +13,3 @@ abbrev pub LeaveEnds : {S T L O : Type 0} → Reading T L → Runs S T O → Typ
 LeaveEnds {S} {T} {L} {O} reading run =
     (s : S) (i : Input T) (answer : Answer O) (t : S) (j : Input T)
     → run s i answer t j → IsEndOf reading j i
-
--- Runs that keep their state.
-abbrev pub Keeps : {S T O : Type 0} → (S → Input T → Answer O → Input T → Type 0) → Runs S T O
-Keeps runs s i answer t j = runs s i answer j × (t ≡ s)

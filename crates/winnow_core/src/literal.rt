@@ -1,9 +1,9 @@
 //! Literals: what a parser of a literal runs, by value or made by a function.
 #![tactic(auto, using(streams::specs::Ends::ends_follow))]
 
+ghost use Rattle.parser_definitions.specs.Does.{Ran};
+ghost use Rattle.parser_definitions.specs.Literal.{LiteralDoes};
 ghost use Rattle.stream_errors.specs.Form.{answer_by};
-ghost use Rattle.streams.specs.Input.{IsEndOf};
-ghost use Rattle.winnow_core.specs.Literal.{LiteralRuns};
 
 use crate::short::short;
 use stream_errors::parser_error::ParserError;
@@ -17,9 +17,8 @@ pub fn take_literal<T, I: StreamIsPartial + Compare<T>, E: ParserError<I>>(
     input: &mut I,
     literal: T,
 ) -> Result<I::Slice, E>
-    ensures ran { LiteralRuns I.reading E.form (I.spells literal) (λ slice. slice)
-        (I.view input.old) (answer_by E.kind result) (I.view input.new) }
-    ensures ends { IsEndOf I.reading (I.view input.new) (I.view input.old) }
+    ensures ran { Ran I.reading (LiteralDoes I.reading I.spells (λ _ slice. slice)) E.form literal
+        (I.view input.old) (answer_by E.kind result) literal (I.view input.new) }
 {
     match input.compare(literal) {
         CompareResult::Ok(length) => Ok(input.next_slice(length)),

@@ -12,6 +12,7 @@ use Rattle.parser_definitions.specs.Length.{leaving, only}
 use Rattle.parser_definitions.specs.Outcome.{Does, Outcome, asks, backs, cuts, took, wants}
 use Rattle.parser_definitions.specs.Projects.{Agreement, Complete, Projects, agrees_by}
 use Rattle.parser_definitions.specs.Projects.{reads_cases, reads_lacks}
+use Rattle.parser_definitions.specs.Projects.Errors.{complete_err_projects}
 use Rattle.parser_definitions.specs.Projects.Then.{behind_reads, in_reads, then_reads}
 use Rattle.parser_definitions.specs.Projects.Then.{where_reads}
 use Rattle.parser_definitions.specs.Projects.Tokens.{take_projects}
@@ -96,7 +97,7 @@ module _ {S T L O : Type 0} {b m : Type 0} (reading : Reading T L) (counts : Boo
         (record {
           agrees = λ w y (taken, rest, x, many, passed, d, e). agrees_by e
               (leaving_agrees w rest taken many passed.tokens x
-              (p.reads.agrees (only taken w) x d).is);
+              ((complete_err_projects p).reads.agrees (only taken w) x d).is);
         })
         (reads_lacks (missing_from reading counts (λ s. n)) (AreTooFew reading counts (λ s. n))
         (λ w few o rest (front, last, many, split, y).

@@ -3,9 +3,9 @@ ghost use Rattle.parser_definitions.specs.Does.{Ran};
 ghost use Rattle.std.specs.Prelude.{⊤, true};
 ghost use Rattle.grammars.specs.Grammar.Lengths.{Inside, SaysOne, Sized, sized_inside_takes};
 ghost use Rattle.stream_errors.specs.Form.{answer_by, modal};
-ghost use Rattle.winnow_core.specs.CompleteErr.{CompleteErrRuns};
 ghost use Rattle.parser_definitions.specs.Length.{LengthAndThenDoes, OneLength};
 ghost use Rattle.parser_definitions.specs.Length.{TakenDo, length_and_then_law};
+ghost use Rattle.parser_definitions.specs.MapErr.{CompleteErrDoes};
 ghost use Rattle.parser_definitions.specs.Projects.{projects_as};
 ghost use Rattle.parser_definitions.specs.Projects.Length.{length_and_then_projects};
 
@@ -112,7 +112,7 @@ fn parse_complete<P: Parser<I, O, E>, I: Stream, O, E: ParserError<I>>(
 ) -> Result<O, E>
     requires { P.can_parse parser.old }
     ensures again { P.can_parse parser.new }
-    ensures ran { CompleteErrRuns (Ran I.reading P.does E.form) (P.state parser.old)
+    ensures ran { Ran I.reading (CompleteErrDoes P.does) E.form (P.state parser.old)
         (I.view input.old) (answer_by E.kind result) (P.state parser.new) (I.view input.new) }
 {
     match parser.parse_next(input) {

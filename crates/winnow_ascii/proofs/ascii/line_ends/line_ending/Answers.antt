@@ -6,8 +6,8 @@ use Rattle.winnow_ascii.proofs.ascii.line_ends.line_ending.Goals as goal
 pub returns-then-is_backtrack : goal.returns-then-is_backtrack
 returns-then-is_backtrack g c = record {
   ran = second_line_end g.Input.Stream.reading g.Input.Compare.spells g.Error.HasKind.form _ _ _ _
-      _ _ refl (c.is_backtrack.ensures.0 c.if-is_backtrack.true) c.take_literal.ensures.ends
-      c.in-Err.ensures.ran c.crlf.ensures.ran;
+      _ _ refl (c.is_backtrack.ensures.0 c.if-is_backtrack.true) c.in-Err.ensures.ran
+      c.crlf.ensures.ran;
 }
 
 pub returns-else-is_backtrack : goal.returns-else-is_backtrack
@@ -18,7 +18,7 @@ returns-else-is_backtrack g c =
           (Err (g.Error.HasKind.kind c.in-Err.error)) _
           (λ e. other (cc e))
           (text_ran g.Input.Stream.reading g.Input.Compare.spells (10 ∷ []) g.Error.HasKind.form _
-          _ _ _ refl c.take_literal.ensures.ends c.in-Err.ensures.ran);
+          _ _ _ refl c.in-Err.ensures.ran);
     }
 
 pub returns-in-Ok : goal.returns-in-Ok
@@ -26,5 +26,5 @@ returns-in-Ok g c = record {
   ran = first_line_end g.Input.Stream.reading g.Input.Compare.spells g.Error.HasKind.form _
       (Ok c.in-Ok.slice) _ (λ e. absurd (cc e))
       (text_ran g.Input.Stream.reading g.Input.Compare.spells (10 ∷ []) g.Error.HasKind.form _ _ _
-      _ refl c.take_literal.ensures.ends c.in-Ok.ensures.ran);
+      _ refl c.in-Ok.ensures.ran);
 }

@@ -4,10 +4,10 @@ use Rattle.streams.specs.Input.{is_end_of_refl, passes_end}
 use Rattle.stream_errors.specs.Form.{answer_by}
 use Rattle.parser_definitions.specs.Does.{Ran}
 use Rattle.parser_definitions.specs.Left.{left_of}
-use Rattle.winnow_core.specs.CompleteErr.{CompleteErrRuns}
+use Rattle.parser_definitions.specs.MapErr.{CompleteErrDoes}
 use Rattle.parser_definitions.specs.Outcome.{lacks, setting_of}
 use Rattle.winnow_core.specs.Covers.Leaves.{passed_of, short}
-use Rattle.winnow_binary.proofs.LengthAndThenLemmas.{inside, only_first, only_first_is}
+use Rattle.winnow_binary.proofs.LengthAndThenLemmas.{inside, only_first_is}
 use Rattle.winnow_binary.proofs.binary.impls.length_and_then.parse_taken.Goals as goal
 
 pub next_slice-taken-requires : goal.next_slice-taken-requires
@@ -25,27 +25,25 @@ returns-in-Ok-clause-ran g c =
     let takes = c.next_slice-taken.ensures.cuts (take n i.left.tokens) (drop n i.left.tokens)
     (sym (take-append-drop n i.left.tokens)) c.in-Ok.ensures.1 in
     let end = passes_end takes.passed in
-    let At : _ → Type 0 =
-    λ x. CompleteErrRuns (Ran reading g.P.Parser.does form) (g.P.Parser.state c.args.parser.now) x
-    (answer_by g.E.HasKind.kind c.parse_complete.result)
-    (g.P.Parser.state c.parse_complete.new.parser)
-    (g.I.Stream.view c.parse_complete.new.input) in
-    let (x, did, is) = inside reading g.P.Parser.does form
-    (left_of (g.I.Stream.view c.next_slice-taken.new.self)) _ (only_first (take n i.left.tokens) i)
-    _ _ _ (subst At (c.complete-state.ensures.complete
+    let end_of = g.I.Stream.view c.parse_complete.new.input in
+    let answer = answer_by g.E.HasKind.kind c.parse_complete.result in
+    let t = g.P.Parser.state c.parse_complete.new.parser in
+    let At : _ → Type 0 = λ x. Ran reading (CompleteErrDoes g.P.Parser.does) form
+    (g.P.Parser.state c.args.parser.now) x answer t end_of in
+    let ran = subst At (c.complete-state.ensures.complete
     ∙ only_first_is g.met.I.UpdateSlice.one_list takes c.update_slice-only.ensures)
-    c.parse_complete.ensures.ran) in (
+    c.parse_complete.ensures.ran in (
       end,
       end.cut,
       end.ends.possible,
       inl (
         take n i.left.tokens,
         _,
-        x,
+        _,
         length-take-le n i.left.tokens c.in-Ok.ensures.0,
         passed_of takes.passed,
-        did,
-        is,
+        ran.3,
+        inside (left_of (g.I.Stream.view c.next_slice-taken.new.self)) (left_of end_of) answer t,
       ),
     )
 
