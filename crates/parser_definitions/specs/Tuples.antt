@@ -48,12 +48,12 @@ pub sequence4_law : {S1 S2 S3 S4 T O1 O2 O3 O4 : Type 0} {sure1 sure2 sure3 sure
     {a4 : O4 → O4 → Type 0} {does1 : Does S1 T O1} {does2 : Does S2 T O2} {does3 : Does S3 T O3}
     {does4 : Does S4 T O4}
     → Lawful sure1 a1 does1 → Lawful sure2 a2 does2 → Lawful sure3 a3 does3
-        → Lawful sure4 a4 does4
-        → Lawful ((sure1 × sure2 × sure3) × sure4) (AlikeFour a1 a2 a3 a4)
-          (SequenceDoes4 does1 does2 does3 does4)
+    → Lawful sure4 a4 does4
+    → Lawful ((sure1 × sure2 × sure3) × sure4) (AlikeFour a1 a2 a3 a4)
+    (SequenceDoes4 does1 does2 does3 does4)
 sequence4_law law1 law2 law3 law4 =
     joined_law split4 join4 join4 split4 (λ o p q r x y. (x, y)) (sequence3_law law1 law2 law3)
-      law4
+    law4
 
 -- The first four members of a tuple, and the last.
 abbrev pub split5 : {O1 O2 O3 O4 O5 : Type 0} → O1 × O2 × O3 × O4 × O5 → (O1 × O2 × O3 × O4) × O5
@@ -76,12 +76,12 @@ pub sequence5_law : {S1 S2 S3 S4 S5 T O1 O2 O3 O4 O5 : Type 0}
     {does1 : Does S1 T O1} {does2 : Does S2 T O2} {does3 : Does S3 T O3} {does4 : Does S4 T O4}
     {does5 : Does S5 T O5}
     → Lawful sure1 a1 does1 → Lawful sure2 a2 does2 → Lawful sure3 a3 does3
-        → Lawful sure4 a4 does4 → Lawful sure5 a5 does5
-        → Lawful (((sure1 × sure2 × sure3) × sure4) × sure5) (AlikeFive a1 a2 a3 a4 a5)
-          (SequenceDoes5 does1 does2 does3 does4 does5)
+    → Lawful sure4 a4 does4 → Lawful sure5 a5 does5
+    → Lawful (((sure1 × sure2 × sure3) × sure4) × sure5) (AlikeFive a1 a2 a3 a4 a5)
+    (SequenceDoes5 does1 does2 does3 does4 does5)
 sequence5_law law1 law2 law3 law4 law5 =
     joined_law split5 join5 join5 split5 (λ o p q r x y. (x, y))
-      (sequence4_law law1 law2 law3 law4) law5
+    (sequence4_law law1 law2 law3 law4) law5
 
 -- The first five members of a tuple, and the last.
 abbrev pub split6 : {O1 O2 O3 O4 O5 O6 : Type 0} → O1 × O2 × O3 × O4 × O5 × O6
@@ -106,12 +106,12 @@ pub sequence6_law : {S1 S2 S3 S4 S5 S6 T O1 O2 O3 O4 O5 O6 : Type 0}
     {does2 : Does S2 T O2} {does3 : Does S3 T O3} {does4 : Does S4 T O4} {does5 : Does S5 T O5}
     {does6 : Does S6 T O6}
     → Lawful sure1 a1 does1 → Lawful sure2 a2 does2 → Lawful sure3 a3 does3
-        → Lawful sure4 a4 does4 → Lawful sure5 a5 does5 → Lawful sure6 a6 does6
-        → Lawful ((((sure1 × sure2 × sure3) × sure4) × sure5) × sure6)
-          (AlikeSix a1 a2 a3 a4 a5 a6) (SequenceDoes6 does1 does2 does3 does4 does5 does6)
+    → Lawful sure4 a4 does4 → Lawful sure5 a5 does5 → Lawful sure6 a6 does6
+    → Lawful ((((sure1 × sure2 × sure3) × sure4) × sure5) × sure6)
+    (AlikeSix a1 a2 a3 a4 a5 a6) (SequenceDoes6 does1 does2 does3 does4 does5 does6)
 sequence6_law law1 law2 law3 law4 law5 law6 =
     joined_law split6 join6 join6 split6 (λ o p q r x y. (x, y))
-      (sequence5_law law1 law2 law3 law4 law5) law6
+    (sequence5_law law1 law2 law3 law4 law5) law6
 
 -- The first six members of a tuple, and the last.
 abbrev pub split7 : {O1 O2 O3 O4 O5 O6 O7 : Type 0} → O1 × O2 × O3 × O4 × O5 × O6 × O7
@@ -137,14 +137,14 @@ pub sequence7_law : {S1 S2 S3 S4 S5 S6 S7 T O1 O2 O3 O4 O5 O6 O7 : Type 0}
     {does1 : Does S1 T O1} {does2 : Does S2 T O2} {does3 : Does S3 T O3} {does4 : Does S4 T O4}
     {does5 : Does S5 T O5} {does6 : Does S6 T O6} {does7 : Does S7 T O7}
     → Lawful sure1 a1 does1 → Lawful sure2 a2 does2 → Lawful sure3 a3 does3
-        → Lawful sure4 a4 does4 → Lawful sure5 a5 does5 → Lawful sure6 a6 does6
-        → Lawful sure7 a7 does7
-        → Lawful (((((sure1 × sure2 × sure3) × sure4) × sure5) × sure6) × sure7)
-          (AlikeSeven a1 a2 a3 a4 a5 a6 a7)
-          (SequenceDoes7 does1 does2 does3 does4 does5 does6 does7)
+    → Lawful sure4 a4 does4 → Lawful sure5 a5 does5 → Lawful sure6 a6 does6
+    → Lawful sure7 a7 does7
+    → Lawful (((((sure1 × sure2 × sure3) × sure4) × sure5) × sure6) × sure7)
+    (AlikeSeven a1 a2 a3 a4 a5 a6 a7)
+    (SequenceDoes7 does1 does2 does3 does4 does5 does6 does7)
 sequence7_law law1 law2 law3 law4 law5 law6 law7 =
     joined_law split7 join7 join7 split7 (λ o p q r x y. (x, y))
-      (sequence6_law law1 law2 law3 law4 law5 law6) law7
+    (sequence6_law law1 law2 law3 law4 law5 law6) law7
 
 -- The first seven members of a tuple, and the last.
 abbrev pub split8 : {O1 O2 O3 O4 O5 O6 O7 O8 : Type 0} → O1 × O2 × O3 × O4 × O5 × O6 × O7 × O8
@@ -172,14 +172,14 @@ pub sequence8_law : {S1 S2 S3 S4 S5 S6 S7 S8 T O1 O2 O3 O4 O5 O6 O7 O8 : Type 0}
     {does4 : Does S4 T O4} {does5 : Does S5 T O5} {does6 : Does S6 T O6} {does7 : Does S7 T O7}
     {does8 : Does S8 T O8}
     → Lawful sure1 a1 does1 → Lawful sure2 a2 does2 → Lawful sure3 a3 does3
-        → Lawful sure4 a4 does4 → Lawful sure5 a5 does5 → Lawful sure6 a6 does6
-        → Lawful sure7 a7 does7 → Lawful sure8 a8 does8
-        → Lawful ((((((sure1 × sure2 × sure3) × sure4) × sure5) × sure6) × sure7) × sure8)
-          (AlikeEight a1 a2 a3 a4 a5 a6 a7 a8)
-          (SequenceDoes8 does1 does2 does3 does4 does5 does6 does7 does8)
+    → Lawful sure4 a4 does4 → Lawful sure5 a5 does5 → Lawful sure6 a6 does6
+    → Lawful sure7 a7 does7 → Lawful sure8 a8 does8
+    → Lawful ((((((sure1 × sure2 × sure3) × sure4) × sure5) × sure6) × sure7) × sure8)
+    (AlikeEight a1 a2 a3 a4 a5 a6 a7 a8)
+    (SequenceDoes8 does1 does2 does3 does4 does5 does6 does7 does8)
 sequence8_law law1 law2 law3 law4 law5 law6 law7 law8 =
     joined_law split8 join8 join8 split8 (λ o p q r x y. (x, y))
-      (sequence7_law law1 law2 law3 law4 law5 law6 law7) law8
+    (sequence7_law law1 law2 law3 law4 law5 law6 law7) law8
 
 -- The first eight members of a tuple, and the last.
 abbrev pub split9 : {O1 O2 O3 O4 O5 O6 O7 O8 O9 : Type 0}
@@ -190,10 +190,10 @@ abbrev pub SequenceDoes9 : {S1 S2 S3 S4 S5 S6 S7 S8 S9 T O1 O2 O3 O4 O5 O6 O7 O8
     → Does S1 T O1 → Does S2 T O2 → Does S3 T O3 → Does S4 T O4 → Does S5 T O5 → Does S6 T O6
     → Does S7 T O7 → Does S8 T O8 → Does S9 T O9
     → Does (S1 × S2 × S3 × S4 × S5 × S6 × S7 × S8 × S9) T
-      (O1 × O2 × O3 × O4 × O5 × O6 × O7 × O8 × O9)
+    (O1 × O2 × O3 × O4 × O5 × O6 × O7 × O8 × O9)
 SequenceDoes9 does1 does2 does3 does4 does5 does6 does7 does8 does9 =
     JoinedDo split9 join9 join9 (SequenceDoes8 does1 does2 does3 does4 does5 does6 does7 does8)
-      does9
+    does9
 
 abbrev pub AlikeNine : {O1 O2 O3 O4 O5 O6 O7 O8 O9 : Type 0} → (O1 → O1 → Type 0)
     → (O2 → O2 → Type 0) → (O3 → O3 → Type 0) → (O4 → O4 → Type 0) → (O5 → O5 → Type 0)
@@ -210,14 +210,14 @@ pub sequence9_law : {S1 S2 S3 S4 S5 S6 S7 S8 S9 T O1 O2 O3 O4 O5 O6 O7 O8 O9 : T
     {does2 : Does S2 T O2} {does3 : Does S3 T O3} {does4 : Does S4 T O4} {does5 : Does S5 T O5}
     {does6 : Does S6 T O6} {does7 : Does S7 T O7} {does8 : Does S8 T O8} {does9 : Does S9 T O9}
     → Lawful sure1 a1 does1 → Lawful sure2 a2 does2 → Lawful sure3 a3 does3
-        → Lawful sure4 a4 does4 → Lawful sure5 a5 does5 → Lawful sure6 a6 does6
-        → Lawful sure7 a7 does7 → Lawful sure8 a8 does8 → Lawful sure9 a9 does9
-        → Lawful (((((((sure1 × sure2 × sure3) × sure4) × sure5) × sure6) × sure7) × sure8)
-          × sure9) (AlikeNine a1 a2 a3 a4 a5 a6 a7 a8 a9)
-          (SequenceDoes9 does1 does2 does3 does4 does5 does6 does7 does8 does9)
+    → Lawful sure4 a4 does4 → Lawful sure5 a5 does5 → Lawful sure6 a6 does6
+    → Lawful sure7 a7 does7 → Lawful sure8 a8 does8 → Lawful sure9 a9 does9
+    → Lawful (((((((sure1 × sure2 × sure3) × sure4) × sure5) × sure6) × sure7) × sure8)
+    × sure9) (AlikeNine a1 a2 a3 a4 a5 a6 a7 a8 a9)
+    (SequenceDoes9 does1 does2 does3 does4 does5 does6 does7 does8 does9)
 sequence9_law law1 law2 law3 law4 law5 law6 law7 law8 law9 =
     joined_law split9 join9 join9 split9 (λ o p q r x y. (x, y))
-      (sequence8_law law1 law2 law3 law4 law5 law6 law7 law8) law9
+    (sequence8_law law1 law2 law3 law4 law5 law6 law7 law8) law9
 
 -- The first nine members of a tuple, and the last.
 abbrev pub split10 : {O1 O2 O3 O4 O5 O6 O7 O8 O9 O10 : Type 0}
@@ -230,10 +230,10 @@ abbrev pub SequenceDoes10 :
     → Does S2 T O2 → Does S3 T O3 → Does S4 T O4 → Does S5 T O5 → Does S6 T O6 → Does S7 T O7
     → Does S8 T O8 → Does S9 T O9 → Does S10 T O10
     → Does (S1 × S2 × S3 × S4 × S5 × S6 × S7 × S8 × S9 × S10) T
-      (O1 × O2 × O3 × O4 × O5 × O6 × O7 × O8 × O9 × O10)
+    (O1 × O2 × O3 × O4 × O5 × O6 × O7 × O8 × O9 × O10)
 SequenceDoes10 does1 does2 does3 does4 does5 does6 does7 does8 does9 does10 =
     JoinedDo split10 join10 join10
-      (SequenceDoes9 does1 does2 does3 does4 does5 does6 does7 does8 does9) does10
+    (SequenceDoes9 does1 does2 does3 does4 does5 does6 does7 does8 does9) does10
 
 abbrev pub AlikeTen : {O1 O2 O3 O4 O5 O6 O7 O8 O9 O10 : Type 0} → (O1 → O1 → Type 0)
     → (O2 → O2 → Type 0) → (O3 → O3 → Type 0) → (O4 → O4 → Type 0) → (O5 → O5 → Type 0)
@@ -253,15 +253,15 @@ pub sequence10_law : {S1 S2 S3 S4 S5 S6 S7 S8 S9 S10 T O1 O2 O3 O4 O5 O6 O7 O8 O
     {does7 : Does S7 T O7} {does8 : Does S8 T O8} {does9 : Does S9 T O9}
     {does10 : Does S10 T O10}
     → Lawful sure1 a1 does1 → Lawful sure2 a2 does2 → Lawful sure3 a3 does3
-        → Lawful sure4 a4 does4 → Lawful sure5 a5 does5 → Lawful sure6 a6 does6
-        → Lawful sure7 a7 does7 → Lawful sure8 a8 does8 → Lawful sure9 a9 does9
-        → Lawful sure10 a10 does10
-        → Lawful ((((((((sure1 × sure2 × sure3) × sure4) × sure5) × sure6) × sure7) × sure8)
-            × sure9) × sure10) (AlikeTen a1 a2 a3 a4 a5 a6 a7 a8 a9 a10)
-          (SequenceDoes10 does1 does2 does3 does4 does5 does6 does7 does8 does9 does10)
+    → Lawful sure4 a4 does4 → Lawful sure5 a5 does5 → Lawful sure6 a6 does6
+    → Lawful sure7 a7 does7 → Lawful sure8 a8 does8 → Lawful sure9 a9 does9
+    → Lawful sure10 a10 does10
+    → Lawful ((((((((sure1 × sure2 × sure3) × sure4) × sure5) × sure6) × sure7) × sure8)
+    × sure9) × sure10) (AlikeTen a1 a2 a3 a4 a5 a6 a7 a8 a9 a10)
+    (SequenceDoes10 does1 does2 does3 does4 does5 does6 does7 does8 does9 does10)
 sequence10_law law1 law2 law3 law4 law5 law6 law7 law8 law9 law10 =
     joined_law split10 join10 join10 split10 (λ o p q r x y. (x, y))
-      (sequence9_law law1 law2 law3 law4 law5 law6 law7 law8 law9) law10
+    (sequence9_law law1 law2 law3 law4 law5 law6 law7 law8 law9) law10
 
 -- The first ten members of a tuple, and the last.
 abbrev pub split11 : {O1 O2 O3 O4 O5 O6 O7 O8 O9 O10 O11 : Type 0}
@@ -274,10 +274,10 @@ abbrev pub SequenceDoes11 :
     → Does S1 T O1 → Does S2 T O2 → Does S3 T O3 → Does S4 T O4 → Does S5 T O5 → Does S6 T O6
     → Does S7 T O7 → Does S8 T O8 → Does S9 T O9 → Does S10 T O10 → Does S11 T O11
     → Does (S1 × S2 × S3 × S4 × S5 × S6 × S7 × S8 × S9 × S10 × S11) T
-      (O1 × O2 × O3 × O4 × O5 × O6 × O7 × O8 × O9 × O10 × O11)
+    (O1 × O2 × O3 × O4 × O5 × O6 × O7 × O8 × O9 × O10 × O11)
 SequenceDoes11 does1 does2 does3 does4 does5 does6 does7 does8 does9 does10 does11 =
     JoinedDo split11 join11 join11
-      (SequenceDoes10 does1 does2 does3 does4 does5 does6 does7 does8 does9 does10) does11
+    (SequenceDoes10 does1 does2 does3 does4 does5 does6 does7 does8 does9 does10) does11
 
 abbrev pub AlikeEleven : {O1 O2 O3 O4 O5 O6 O7 O8 O9 O10 O11 : Type 0} → (O1 → O1 → Type 0)
     → (O2 → O2 → Type 0) → (O3 → O3 → Type 0) → (O4 → O4 → Type 0) → (O5 → O5 → Type 0)
@@ -299,12 +299,12 @@ pub sequence11_law :
     {does6 : Does S6 T O6} {does7 : Does S7 T O7} {does8 : Does S8 T O8} {does9 : Does S9 T O9}
     {does10 : Does S10 T O10} {does11 : Does S11 T O11}
     → Lawful sure1 a1 does1 → Lawful sure2 a2 does2 → Lawful sure3 a3 does3
-        → Lawful sure4 a4 does4 → Lawful sure5 a5 does5 → Lawful sure6 a6 does6
-        → Lawful sure7 a7 does7 → Lawful sure8 a8 does8 → Lawful sure9 a9 does9
-        → Lawful sure10 a10 does10 → Lawful sure11 a11 does11
-        → Lawful (((((((((sure1 × sure2 × sure3) × sure4) × sure5) × sure6) × sure7) × sure8)
-              × sure9) × sure10) × sure11) (AlikeEleven a1 a2 a3 a4 a5 a6 a7 a8 a9 a10 a11)
-          (SequenceDoes11 does1 does2 does3 does4 does5 does6 does7 does8 does9 does10 does11)
+    → Lawful sure4 a4 does4 → Lawful sure5 a5 does5 → Lawful sure6 a6 does6
+    → Lawful sure7 a7 does7 → Lawful sure8 a8 does8 → Lawful sure9 a9 does9
+    → Lawful sure10 a10 does10 → Lawful sure11 a11 does11
+    → Lawful (((((((((sure1 × sure2 × sure3) × sure4) × sure5) × sure6) × sure7) × sure8)
+    × sure9) × sure10) × sure11) (AlikeEleven a1 a2 a3 a4 a5 a6 a7 a8 a9 a10 a11)
+    (SequenceDoes11 does1 does2 does3 does4 does5 does6 does7 does8 does9 does10 does11)
 sequence11_law law1 law2 law3 law4 law5 law6 law7 law8 law9 law10 law11 =
     joined_law split11 join11 join11 split11 (λ o p q r x y. (x, y))
-      (sequence10_law law1 law2 law3 law4 law5 law6 law7 law8 law9 law10) law11
+    (sequence10_law law1 law2 law3 law4 law5 law6 law7 law8 law9 law10) law11

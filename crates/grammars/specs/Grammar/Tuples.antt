@@ -61,8 +61,18 @@ Nine g1 g2 g3 g4 g5 g6 g7 g8 g9 = Both join9 (Eight g1 g2 g3 g4 g5 g6 g7 g8) g9
 abbrev pub join10 : {O1 O2 O3 O4 O5 O6 O7 O8 O9 O10 : Type 0}
     → O1 × O2 × O3 × O4 × O5 × O6 × O7 × O8 × O9 → O10
     → O1 × O2 × O3 × O4 × O5 × O6 × O7 × O8 × O9 × O10
-join10 front last = (front.0, front.1, front.2, front.3, front.4, front.5, front.6, front.7,
-      front.8, last)
+join10 front last = (
+  front.0,
+  front.1,
+  front.2,
+  front.3,
+  front.4,
+  front.5,
+  front.6,
+  front.7,
+  front.8,
+  last,
+)
 
 -- A match of nine grammars in sequence, followed by a match of the last.
 abbrev pub Ten : {T O1 O2 O3 O4 O5 O6 O7 O8 O9 O10 : Type 0} → Grammar T O1 → Grammar T O2
@@ -74,8 +84,19 @@ Ten g1 g2 g3 g4 g5 g6 g7 g8 g9 g10 = Both join10 (Nine g1 g2 g3 g4 g5 g6 g7 g8 g
 abbrev pub join11 : {O1 O2 O3 O4 O5 O6 O7 O8 O9 O10 O11 : Type 0}
     → O1 × O2 × O3 × O4 × O5 × O6 × O7 × O8 × O9 × O10 → O11
     → O1 × O2 × O3 × O4 × O5 × O6 × O7 × O8 × O9 × O10 × O11
-join11 front last = (front.0, front.1, front.2, front.3, front.4, front.5, front.6, front.7,
-      front.8, front.9, last)
+join11 front last = (
+  front.0,
+  front.1,
+  front.2,
+  front.3,
+  front.4,
+  front.5,
+  front.6,
+  front.7,
+  front.8,
+  front.9,
+  last,
+)
 
 -- A match of ten grammars in sequence, followed by a match of the last.
 abbrev pub Eleven : {T O1 O2 O3 O4 O5 O6 O7 O8 O9 O10 O11 : Type 0} → Grammar T O1

@@ -22,10 +22,10 @@ pub sequence4_claimed : {S1 S2 S3 S4 T O1 O2 O3 O4 : Type 0} {c1 : Claim T O1} {
     {c3 : Claim T O3} {c4 : Claim T O4} {s : S1 × S2 × S3 × S4} {does1 : Does S1 T O1}
     {does2 : Does S2 T O2} {does3 : Does S3 T O3} {does4 : Does S4 T O4}
     → Claimed c1 s.0 does1 → Claimed c2 s.1 does2 → Claimed c3 s.2 does3 → Claimed c4 s.3 does4
-        → Claimed (sequence4_claim c1 c2 c3 c4) s (SequenceDoes4 does1 does2 does3 does4)
+    → Claimed (sequence4_claim c1 c2 c3 c4) s (SequenceDoes4 does1 does2 does3 does4)
 sequence4_claimed h1 h2 h3 h4 =
     joined_claimed join4 split4 join4 refl (three_claimed (λ o1 o2 o3. (o1, o2, o3)) h1 h2 h3)
-      h4
+    h4
 
 -- The claim of five.
 abbrev pub sequence5_claim : {T O1 O2 O3 O4 O5 : Type 0} → Claim T O1 → Claim T O2 → Claim T O3
@@ -37,9 +37,9 @@ pub sequence5_claimed : {S1 S2 S3 S4 S5 T O1 O2 O3 O4 O5 : Type 0} {c1 : Claim T
     {s : S1 × S2 × S3 × S4 × S5} {does1 : Does S1 T O1} {does2 : Does S2 T O2}
     {does3 : Does S3 T O3} {does4 : Does S4 T O4} {does5 : Does S5 T O5}
     → Claimed c1 s.0 does1 → Claimed c2 s.1 does2 → Claimed c3 s.2 does3 → Claimed c4 s.3 does4
-        → Claimed c5 s.4 does5
-        → Claimed (sequence5_claim c1 c2 c3 c4 c5) s
-          (SequenceDoes5 does1 does2 does3 does4 does5)
+    → Claimed c5 s.4 does5
+    → Claimed (sequence5_claim c1 c2 c3 c4 c5) s
+    (SequenceDoes5 does1 does2 does3 does4 does5)
 sequence5_claimed h1 h2 h3 h4 h5 =
     joined_claimed join5 split5 join5 refl (sequence4_claimed h1 h2 h3 h4) h5
 
@@ -53,9 +53,9 @@ pub sequence6_claimed : {S1 S2 S3 S4 S5 S6 T O1 O2 O3 O4 O5 O6 : Type 0} {c1 : C
     {s : S1 × S2 × S3 × S4 × S5 × S6} {does1 : Does S1 T O1} {does2 : Does S2 T O2}
     {does3 : Does S3 T O3} {does4 : Does S4 T O4} {does5 : Does S5 T O5} {does6 : Does S6 T O6}
     → Claimed c1 s.0 does1 → Claimed c2 s.1 does2 → Claimed c3 s.2 does3 → Claimed c4 s.3 does4
-        → Claimed c5 s.4 does5 → Claimed c6 s.5 does6
-        → Claimed (sequence6_claim c1 c2 c3 c4 c5 c6) s
-          (SequenceDoes6 does1 does2 does3 does4 does5 does6)
+    → Claimed c5 s.4 does5 → Claimed c6 s.5 does6
+    → Claimed (sequence6_claim c1 c2 c3 c4 c5 c6) s
+    (SequenceDoes6 does1 does2 does3 does4 does5 does6)
 sequence6_claimed h1 h2 h3 h4 h5 h6 =
     joined_claimed join6 split6 join6 refl (sequence5_claimed h1 h2 h3 h4 h5) h6
 
@@ -71,9 +71,9 @@ pub sequence7_claimed : {S1 S2 S3 S4 S5 S6 S7 T O1 O2 O3 O4 O5 O6 O7 : Type 0} {
     {does2 : Does S2 T O2} {does3 : Does S3 T O3} {does4 : Does S4 T O4} {does5 : Does S5 T O5}
     {does6 : Does S6 T O6} {does7 : Does S7 T O7}
     → Claimed c1 s.0 does1 → Claimed c2 s.1 does2 → Claimed c3 s.2 does3 → Claimed c4 s.3 does4
-        → Claimed c5 s.4 does5 → Claimed c6 s.5 does6 → Claimed c7 s.6 does7
-        → Claimed (sequence7_claim c1 c2 c3 c4 c5 c6 c7) s
-          (SequenceDoes7 does1 does2 does3 does4 does5 does6 does7)
+    → Claimed c5 s.4 does5 → Claimed c6 s.5 does6 → Claimed c7 s.6 does7
+    → Claimed (sequence7_claim c1 c2 c3 c4 c5 c6 c7) s
+    (SequenceDoes7 does1 does2 does3 does4 does5 does6 does7)
 sequence7_claimed h1 h2 h3 h4 h5 h6 h7 =
     joined_claimed join7 split7 join7 refl (sequence6_claimed h1 h2 h3 h4 h5 h6) h7
 
@@ -90,10 +90,10 @@ pub sequence8_claimed : {S1 S2 S3 S4 S5 S6 S7 S8 T O1 O2 O3 O4 O5 O6 O7 O8 : Typ
     {does3 : Does S3 T O3} {does4 : Does S4 T O4} {does5 : Does S5 T O5} {does6 : Does S6 T O6}
     {does7 : Does S7 T O7} {does8 : Does S8 T O8}
     → Claimed c1 s.0 does1 → Claimed c2 s.1 does2 → Claimed c3 s.2 does3 → Claimed c4 s.3 does4
-        → Claimed c5 s.4 does5 → Claimed c6 s.5 does6 → Claimed c7 s.6 does7
-        → Claimed c8 s.7 does8
-        → Claimed (sequence8_claim c1 c2 c3 c4 c5 c6 c7 c8) s
-          (SequenceDoes8 does1 does2 does3 does4 does5 does6 does7 does8)
+    → Claimed c5 s.4 does5 → Claimed c6 s.5 does6 → Claimed c7 s.6 does7
+    → Claimed c8 s.7 does8
+    → Claimed (sequence8_claim c1 c2 c3 c4 c5 c6 c7 c8) s
+    (SequenceDoes8 does1 does2 does3 does4 does5 does6 does7 does8)
 sequence8_claimed h1 h2 h3 h4 h5 h6 h7 h8 =
     joined_claimed join8 split8 join8 refl (sequence7_claimed h1 h2 h3 h4 h5 h6 h7) h8
 
@@ -111,10 +111,10 @@ pub sequence9_claimed : {S1 S2 S3 S4 S5 S6 S7 S8 S9 T O1 O2 O3 O4 O5 O6 O7 O8 O9
     {does2 : Does S2 T O2} {does3 : Does S3 T O3} {does4 : Does S4 T O4} {does5 : Does S5 T O5}
     {does6 : Does S6 T O6} {does7 : Does S7 T O7} {does8 : Does S8 T O8} {does9 : Does S9 T O9}
     → Claimed c1 s.0 does1 → Claimed c2 s.1 does2 → Claimed c3 s.2 does3 → Claimed c4 s.3 does4
-        → Claimed c5 s.4 does5 → Claimed c6 s.5 does6 → Claimed c7 s.6 does7
-        → Claimed c8 s.7 does8 → Claimed c9 s.8 does9
-        → Claimed (sequence9_claim c1 c2 c3 c4 c5 c6 c7 c8 c9) s
-          (SequenceDoes9 does1 does2 does3 does4 does5 does6 does7 does8 does9)
+    → Claimed c5 s.4 does5 → Claimed c6 s.5 does6 → Claimed c7 s.6 does7
+    → Claimed c8 s.7 does8 → Claimed c9 s.8 does9
+    → Claimed (sequence9_claim c1 c2 c3 c4 c5 c6 c7 c8 c9) s
+    (SequenceDoes9 does1 does2 does3 does4 does5 does6 does7 does8 does9)
 sequence9_claimed h1 h2 h3 h4 h5 h6 h7 h8 h9 =
     joined_claimed join9 split9 join9 refl (sequence8_claimed h1 h2 h3 h4 h5 h6 h7 h8) h9
 
@@ -134,10 +134,10 @@ pub sequence10_claimed :
     {does6 : Does S6 T O6} {does7 : Does S7 T O7} {does8 : Does S8 T O8} {does9 : Does S9 T O9}
     {does10 : Does S10 T O10}
     → Claimed c1 s.0 does1 → Claimed c2 s.1 does2 → Claimed c3 s.2 does3 → Claimed c4 s.3 does4
-        → Claimed c5 s.4 does5 → Claimed c6 s.5 does6 → Claimed c7 s.6 does7
-        → Claimed c8 s.7 does8 → Claimed c9 s.8 does9 → Claimed c10 s.9 does10
-        → Claimed (sequence10_claim c1 c2 c3 c4 c5 c6 c7 c8 c9 c10) s
-          (SequenceDoes10 does1 does2 does3 does4 does5 does6 does7 does8 does9 does10)
+    → Claimed c5 s.4 does5 → Claimed c6 s.5 does6 → Claimed c7 s.6 does7
+    → Claimed c8 s.7 does8 → Claimed c9 s.8 does9 → Claimed c10 s.9 does10
+    → Claimed (sequence10_claim c1 c2 c3 c4 c5 c6 c7 c8 c9 c10) s
+    (SequenceDoes10 does1 does2 does3 does4 does5 does6 does7 does8 does9 does10)
 sequence10_claimed h1 h2 h3 h4 h5 h6 h7 h8 h9 h10 =
     joined_claimed join10 split10 join10 refl (sequence9_claimed h1 h2 h3 h4 h5 h6 h7 h8 h9) h10
 
@@ -158,11 +158,11 @@ pub sequence11_claimed :
     {does5 : Does S5 T O5} {does6 : Does S6 T O6} {does7 : Does S7 T O7} {does8 : Does S8 T O8}
     {does9 : Does S9 T O9} {does10 : Does S10 T O10} {does11 : Does S11 T O11}
     → Claimed c1 s.0 does1 → Claimed c2 s.1 does2 → Claimed c3 s.2 does3 → Claimed c4 s.3 does4
-        → Claimed c5 s.4 does5 → Claimed c6 s.5 does6 → Claimed c7 s.6 does7
-        → Claimed c8 s.7 does8 → Claimed c9 s.8 does9 → Claimed c10 s.9 does10
-        → Claimed c11 s.10 does11
-        → Claimed (sequence11_claim c1 c2 c3 c4 c5 c6 c7 c8 c9 c10 c11) s
-          (SequenceDoes11 does1 does2 does3 does4 does5 does6 does7 does8 does9 does10 does11)
+    → Claimed c5 s.4 does5 → Claimed c6 s.5 does6 → Claimed c7 s.6 does7
+    → Claimed c8 s.7 does8 → Claimed c9 s.8 does9 → Claimed c10 s.9 does10
+    → Claimed c11 s.10 does11
+    → Claimed (sequence11_claim c1 c2 c3 c4 c5 c6 c7 c8 c9 c10 c11) s
+    (SequenceDoes11 does1 does2 does3 does4 does5 does6 does7 does8 does9 does10 does11)
 sequence11_claimed h1 h2 h3 h4 h5 h6 h7 h8 h9 h10 h11 =
     joined_claimed join11 split11 join11 refl
-      (sequence10_claimed h1 h2 h3 h4 h5 h6 h7 h8 h9 h10) h11
+    (sequence10_claimed h1 h2 h3 h4 h5 h6 h7 h8 h9 h10) h11
