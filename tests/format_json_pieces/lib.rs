@@ -4,6 +4,8 @@
 #[cfg(test)]
 mod begun;
 #[cfg(test)]
+mod extents;
+#[cfg(test)]
 mod pieces;
 #[cfg(test)]
 mod refused;

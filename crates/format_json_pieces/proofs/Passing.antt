@@ -1,6 +1,7 @@
 -- The walk accepts the bytes of a value and their prefixes: if it rejects bytes, no longer bytes
 -- start with a value.
-use Rattle.std.proofs.Common.{◌++◌, ◌∷◌, ◌≡◌, [], ℕ, List, arith, length, refl, subst, suc, sym}
+use Rattle.std.proofs.Common.{◌++◌, ◌∷◌, ◌≡◌, [], ℕ, List, Some, arith, length, refl, subst, suc}
+use Rattle.std.proofs.Common.{sym}
 use Rattle.std.specs.List.{All}
 use Rattle.std.specs.Str.{IsUtf8, chars, encode_utf8_all}
 use Rattle.std.proofs.lemmas.List.{append-nil}
@@ -19,7 +20,7 @@ use Rattle.format_json_pieces.proofs.Passes.Values.{after_gap, inner_on, space_b
 use Rattle.format_json_pieces.proofs.Passes.Values.{value_here, value_on}
 use Rattle.format_json_pieces.proofs.Walks.{Started, any, begun_front, walked_one}
 use Rattle.format_json_pieces.specs.Begun.{IsViablePrefix, IsWalked, MayBegin}
-use Rattle.format_json_pieces.specs.Value.{InUtf8, IsValueIn}
+use Rattle.format_json_pieces.specs.Value.{InUtf8, IsNext, IsValueIn}
 use Rattle.format_json_pieces.specs.declared.begun.Bracket.TheVariants.{Whole}
 use Rattle.format_json_pieces.specs.declared.begun.Mode.TheVariants as modes
 use Rattle.format_json_pieces.proofs.ValueLemmas.{value_ends}
@@ -93,21 +94,29 @@ module _ {A : Type 0} (level : ℕ) where
 
 -- ---- whitespace before a value
 
-begun_gap : (level : ℕ) (gap left : List ℕ) → All IsMultispace gap
-    → IsViablePrefix level modes.Value [] left → IsViablePrefix level modes.Value [] (gap ++ left)
-begun_gap level [] left all x = x
-begun_gap level (b ∷ gap) left all x =
-    space_by (λ c. IsViablePrefix level modes.Value [] (gap ++ left)
-    → IsViablePrefix level modes.Value [] (c ∷ (gap ++ left))) (λ y. y) (λ y. y) (λ y. y) (λ y. y) b
+gap_walked : (ends : List ℕ → Type 0) (level : ℕ) (gap left : List ℕ) → All IsMultispace gap
+    → IsWalked ends level modes.Value [] left → IsWalked ends level modes.Value [] (gap ++ left)
+gap_walked ends level [] left all x = x
+gap_walked ends level (b ∷ gap) left all x =
+    space_by (λ c. IsWalked ends level modes.Value [] (gap ++ left)
+    → IsWalked ends level modes.Value [] (c ∷ (gap ++ left))) (λ y. y) (λ y. y) (λ y. y) (λ y. y) b
     (grind (arith, All-head IsMultispace b gap all))
-    (begun_gap level gap left (All-tail IsMultispace b gap all) x)
+    (gap_walked ends level gap left (All-tail IsMultispace b gap all) x)
+
+pub next_walked : {A : Type 0} (level : ℕ) (ends : List ℕ → Type 0) (bytes : List ℕ) (v : Value A)
+    (rest : List ℕ) → IsNext level bytes (Some v) rest → ends rest
+    → IsWalked ends level modes.Value [] bytes
+unfolding IsNext
+next_walked level ends bytes v rest (gap, start, all, e, x) ended =
+    subst (λ l. IsWalked ends level modes.Value [] l) (sym e)
+    (gap_walked ends level gap start all (value_walked level ends start v rest x ended))
 
 -- after whitespace too
 pub asks_next : (level : ℕ) (bytes gap left : List ℕ) → bytes ≡ gap ++ left
     → All IsMultispace gap → IsViablePrefix level modes.Value [] left
     → IsViablePrefix level modes.Value [] bytes
 asks_next level bytes gap left e all x =
-    subst (λ l. IsViablePrefix level modes.Value [] l) (sym e) (begun_gap level gap left all x)
+    subst (λ l. IsViablePrefix level modes.Value [] l) (sym e) (gap_walked any level gap left all x)
 
 pub asks_white : (level : ℕ) (bytes gap left : List ℕ) → bytes ≡ gap ++ left
     → All IsMultispace gap → length left ≡ 0 → IsViablePrefix level modes.Value [] bytes

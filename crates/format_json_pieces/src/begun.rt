@@ -53,7 +53,7 @@ pub enum Mode {
 
 /// The effect of a byte.
 #[derive(Clone, Copy, Drop)]
-pub enum Step {
+pub(crate) enum Step {
     /// The byte cannot continue the text of a value.
     Invalid,
     /// The value ended before it.
@@ -196,7 +196,7 @@ fn letters_step(letters: Letters, byte: u8) -> Step
 
 /// Returns the effect of a byte, if `mode` is expected in the bracket `held`, the last that was
 /// opened.
-pub fn next_step(mode: Mode, held: Option<Bracket>, byte: u8) -> Step
+pub(crate) fn next_step(mode: Mode, held: Option<Bracket>, byte: u8) -> Step
     ensures { result ≡ next_step mode held byte }
 {
     match mode {
@@ -224,7 +224,7 @@ pub fn next_step(mode: Mode, held: Option<Bracket>, byte: u8) -> Step
 /// Returns the error for bytes that lack the rest of a value's text, if more may follow. It is
 /// `Incomplete` if the bytes can continue to such a text, and otherwise a backtrack; or it is out
 /// of memory.
-pub fn lacking<A: Allocator>(alloc: A, level: usize, bytes: &[u8]) -> ErrMode<EmptyError>
+pub(crate) fn lacking<A: Allocator>(alloc: A, level: usize, bytes: &[u8]) -> ErrMode<EmptyError>
     ensures { IsLacking level bytes.now (⟦<ErrMode<EmptyError> as HasKind>⟧.kind result) }
 {
     match place_in(alloc, None, level, bytes) {

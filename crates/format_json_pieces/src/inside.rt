@@ -52,7 +52,7 @@ pub enum Part {
 
 /// The effect of a byte of a string.
 #[derive(Clone, Copy, Drop)]
-pub enum Inner {
+pub(crate) enum Inner {
     /// No string has it there.
     Broken,
     /// It is the last quote.
@@ -179,7 +179,7 @@ fn tail_behind(part: Part, byte: u8) -> Inner
 }
 
 /// The effect of a byte of a string.
-pub fn part_behind(part: Part, byte: u8) -> Inner
+pub(crate) fn part_behind(part: Part, byte: u8) -> Inner
     ensures { result ≡ part_behind part byte }
 {
     match part {
@@ -224,7 +224,7 @@ pub enum Figure {
 }
 
 /// Whether a number may end there.
-pub fn is_final(figure: Figure) -> bool
+pub(crate) fn is_final(figure: Figure) -> bool
     ensures { result ≡ is_final figure }
 {
     match figure {
@@ -234,14 +234,14 @@ pub fn is_final(figure: Figure) -> bool
 }
 
 /// Returns whether the byte can continue a number: a digit, a point or an E.
-pub fn goes_on(byte: u8) -> bool
+pub(crate) fn goes_on(byte: u8) -> bool
     ensures { result ≡ goes_on byte }
 {
     (b'0' <= byte && byte <= b'9') || byte == b'.' || byte == b'E' || byte == b'e'
 }
 
 /// Returns the state of a number after one more byte, or `None` if the byte cannot continue it.
-pub fn figure_behind(figure: Figure, byte: u8) -> Option<Figure>
+pub(crate) fn figure_behind(figure: Figure, byte: u8) -> Option<Figure>
     ensures { result ≡ figure_behind figure byte }
 {
     let digit = b'0' <= byte && byte <= b'9';
@@ -283,7 +283,7 @@ pub enum Letters {
 }
 
 /// The first of these letters.
-pub fn expected(letters: Letters) -> u8
+pub(crate) fn expected(letters: Letters) -> u8
     ensures { result ≡ expected letters }
 {
     match letters {
@@ -297,7 +297,7 @@ pub fn expected(letters: Letters) -> u8
 }
 
 /// The letters after the first of these.
-pub fn letters_behind(letters: Letters) -> Option<Letters>
+pub(crate) fn letters_behind(letters: Letters) -> Option<Letters>
     ensures { result ≡ letters_behind letters }
 {
     match letters {

@@ -13,8 +13,10 @@
 //! `format_json_values::value::read_value` parses the `0` or the `1`.
 #![tactic(auto)]
 
-mod begun;
+pub mod begun;
 pub mod expected;
-mod inside;
+pub mod extent;
+pub mod inside;
+pub mod laws;
 pub mod place;
 pub mod value;
