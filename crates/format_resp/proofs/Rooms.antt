@@ -19,7 +19,7 @@ use Rattle.format_resp.specs.Resp.{Bytes, ElementsIn, Fits, IsIn, LineSays, Noth
 use Rattle.format_resp.specs.Resp.{Shortest}
 use Rattle.format_resp.specs.Resp.{WrittenText, byte_of, first_mark, formatted, gathered, many}
 use Rattle.format_resp.specs.Resp.{shape_of}
-use Rattle.format_resp.specs.Written.{Adds, IsFullForEach, LacksRoom, bulks_of}
+use Rattle.format_resp.specs.Written.{Adds, IsFullForEach, IsFullWith, LacksRoom, bulks_of}
 use Rattle.format_resp.specs.Written.{data_of, marked}
 use Rattle.format_resp.specs.declared.marks.AggregateMark.{AggregateMark}
 use Rattle.format_resp.specs.declared.marks.AggregateMark.TheVariants.{Star}
@@ -178,6 +178,47 @@ module _ {A B : Type 0} (protocol : Protocol) (level : ℕ) (reply : Replies A) 
   null_array_full shape full tokens is = of_text (marked 42 (45 ∷ 49 ∷ [])) tokens is
       (λ within. null_array_text protocol (ElementsIn Shortest protocol level) reply within shape)
       full
+
+-- why writing a reply with this encoding is out of memory
+module _ {A B T : Type 0} (protocol : Protocol) (level : ℕ) (reply : Replies A) (into : Vec ℕ B)
+    (result : Result T WriteError) where
+  abbrev IsFull : Type 0
+  IsFull = IfErr result (IsFullForEach (WrittenText protocol level) reply into)
+
+  pub line_err : (mark : LineMark) (line : List ℕ) → LineSays Shortest mark reply line
+      → LacksRoom into (marked (byte_of (Line mark)) line) → IsFull
+  line_err mark line says full = full_err (WrittenText protocol level) reply into result
+      (line_full protocol level reply into mark line says full)
+
+  pub integer_err : (n : ℤ) → LacksRoom into (marked 58 (signed_decimal n))
+      → reply ≡ made.Integer n → FitsSigned w64 n → IsFull
+  integer_err n full is fits = full_err (WrittenText protocol level) reply into result
+      (integer_full protocol level reply into n full is fits)
+
+  pub data_err : (mark : DataMark) (bytes : Bor (List ℕ))
+      → shape_of reply ≡ (Data mark, Bytes bytes) → Fits (formatted mark) bytes.now
+      → length bytes.now < 2 ^ 63 → LacksRoom into (data_of (byte_of (Data mark)) bytes.now)
+      → IsFull
+  data_err mark bytes shape fits small full = full_err (WrittenText protocol level) reply into
+      result (data_full protocol level reply into mark bytes shape fits small full)
+
+  pub null_bulk_err : shape_of reply ≡ (Data Dollar, Nothing)
+      → LacksRoom into (marked 36 (45 ∷ 49 ∷ [])) → IsFull
+  null_bulk_err shape full = full_err (WrittenText protocol level) reply into result
+      (null_bulk_full protocol level reply into shape full)
+
+  pub null_array_err : shape_of reply ≡ (Aggregate Star, Nothing)
+      → LacksRoom into (marked 42 (45 ∷ 49 ∷ [])) → IsFull
+  null_array_err shape full = full_err (WrittenText protocol level) reply into result
+      (null_array_full protocol level reply into shape full)
+
+  -- a line that is written if it is valid
+  pub valid_full : {P : Type 0} (mark : LineMark) (line : List ℕ)
+      → (P → LineSays Shortest mark reply line)
+      → IfErr result (IsFullWith P into (marked (byte_of (Line mark)) line)) → IsFull
+  valid_full mark line says told =
+      full_with (WrittenText protocol level) reply into result told
+      (λ is. line_full protocol level reply into mark line (says is))
 
 -- of an aggregate, by those of its elements
 pub aggregate_full : {A B : Type 0} (protocol : Protocol) (mark : AggregateMark) (size below : ℕ)

@@ -1,7 +1,7 @@
 -- Lemmas about the bytes appended for replies, and about the errors of writing.
 use Rattle.std.specs.Prelude.{◌≡◌, ◌≤◌, ◌<◌, ◌+◌, ◌/◌, ◌%◌, ◌^◌, ℕ, List, [], ◌∷◌}
 use Rattle.std.specs.Prelude.{◌++◌, length, FitsSigned, ℤ}
-use Rattle.std.specs.Prelude.{drop, take, slice_index_or, Contains, IfErr, Result, zero, suc}
+use Rattle.std.specs.Prelude.{drop, take, slice_index_or, Contains, IfErr, OnOk, Result, zero, suc}
 use Rattle.std.specs.Borrow.{Bor}
 use Rattle.std.specs.Fmt.{decimal, signed_decimal}
 use Rattle.std.specs.Int.{w64}
@@ -11,7 +11,7 @@ use Rattle.std.proofs.Common.{refl, sym, ap, subst, ◌∙◌, append_assoc, inl
 use Rattle.std.proofs.Math.Seq.{take-append_seam}
 use Rattle.std.proofs.lemmas.Fmt.{decimal_digit, decimal_step}
 use Rattle.std.proofs.lemmas.List.{append-nil, drop_all, drop_more}
-use Rattle.std.proofs.lemmas.Result.{err_from_is_err_and}
+use Rattle.std.proofs.lemmas.Result.{IfErr-weaker, err_from_is_err_and, on_ok_weaker}
 use Rattle.grammars.specs.Texts.{EachText, Text}
 use Rattle.format_resp.proofs.Made.{gathered_is, integer_is, mark_is, shaped}
 use Rattle.format_resp.proofs.WrittenTexts.{aggregate_text, data_text, line_text, null_array_text}
@@ -141,6 +141,15 @@ module _ {A : Type 0} (protocol : Protocol) (level : ℕ) {reply : Replies A}
   null_array_put is = adds (marked 42 (45 ∷ 49 ∷ []))
       (null_array_text protocol (ElementsIn Shortest protocol level) reply within is)
 
+-- a line that is written if it is valid
+pub valid_put : {A T P : Type 0} (protocol : Protocol) (level : ℕ) (reply : Replies A)
+    (before after : List ℕ) (mark : LineMark) (line : List ℕ) → IsIn protocol (first_mark reply)
+    → (P → LineSays Shortest mark reply line) → (result : Result T WriteError)
+    → OnOk result (P × (after ≡ before ++ marked (byte_of (Line mark)) line))
+    → OnOk result (Adds (WrittenText protocol level) reply before after)
+valid_put protocol level reply before after mark line within says result =
+    on_ok_weaker result (λ (is, e). line_put protocol level within mark line (says is) e)
+
 -- the size of an aggregate, and its elements
 pub aggregate_put : {A : Type 0} (protocol : Protocol) (mark : AggregateMark) (size below : ℕ)
     {level : ℕ} (list : Vec (Replies A) A) {items : List (Replies A)} {byte : ℕ}
@@ -164,15 +173,16 @@ aggregate_put {A} protocol mark size below {level} list {before = before} {after
     (e ∙ ap (λ b. before ++ marked b (decimal size)) first) added.behind))
 
 -- what was appended for an aggregate of the version, for the reply that is this aggregate
-pub list_put : {A : Type 0} (protocol : Protocol) (level : ℕ) (mark : AggregateMark)
-    {reply : Replies A} (list : Vec (Replies A) A) {before after : List ℕ}
-    → reply ≡ gathered mark list → IsIn protocol (first_mark reply)
-    → (IsIn protocol (Aggregate mark)
+pub list_put : {A T : Type 0} (protocol : Protocol) (level : ℕ) (mark : AggregateMark)
+    {reply : Replies A} (list : Vec (Replies A) A) (before after : List ℕ)
+    → reply ≡ gathered mark list → IsIn protocol (first_mark reply) → (result : Result T WriteError)
+    → OnOk result (IsIn protocol (Aggregate mark)
     → Adds (WrittenText protocol level) (gathered mark list) before after)
-    → Adds (WrittenText protocol level) reply before after
-list_put protocol level mark {reply} list {before} {after} is within told =
+    → OnOk result (Adds (WrittenText protocol level) reply before after)
+list_put protocol level mark {reply} list before after is within result =
+    on_ok_weaker result (λ told.
     subst (λ r. Adds (WrittenText protocol level) r before after) (sym is)
-    (told (subst (IsIn protocol) (mark_is reply (gathered_is mark list is)) within))
+    (told (subst (IsIn protocol) (mark_is reply (gathered_is mark list is)) within)))
 
 pub adds_text : {A : Type 0} (protocol : Protocol) (level : ℕ) {reply : Replies A}
     {before after : List ℕ}
@@ -202,22 +212,30 @@ module _ {A : Type 0} where
 
 module _ {A : Type 0} (protocol : Protocol) where
   -- an error with its reason
-  pub as_error : (level : ℕ) (reply : Replies A) (error : WriteError) (P : Type 0)
-      → ((P → ⊥) → IsRefused protocol level reply error) → (e : WriteError) → IsRefusedAs error P e
-      → IsRefused protocol level reply e
-  as_error level reply error P why e (inl memory) =
-      subst (IsRefused protocol level reply) (sym memory) tt
-  as_error level reply error P why e (inr (is, not)) =
-      subst (IsRefused protocol level reply) (sym is) (why not)
+  pub as_error : {T P : Type 0} (level : ℕ) (reply : Replies A) (error : WriteError)
+      → ((P → ⊥) → IsRefused protocol level reply error) → (result : Result T WriteError)
+      → IfErr result (IsRefusedAs error P) → IfErr result (IsRefused protocol level reply)
+  as_error {P = P} level reply error why result = IfErr-weaker result (IsRefusedAs error P)
+      (IsRefused protocol level reply) (by_error level reply error P why)
+    where
+      by_error : (level : ℕ) (reply : Replies A) (error : WriteError) (P : Type 0)
+          → ((P → ⊥) → IsRefused protocol level reply error) → (e : WriteError)
+          → IsRefusedAs error P e → IsRefused protocol level reply e
+      by_error level reply error P why e (inl memory) =
+          subst (IsRefused protocol level reply) (sym memory) tt
+      by_error level reply error P why e (inr (is, not)) =
+          subst (IsRefused protocol level reply) (sym is) (why not)
 
   pub refused_foreign : (level : ℕ) (reply : Replies A) → IsForeign protocol reply
       → IsRefused protocol level reply Foreign
   refused_foreign level reply = or_itself (IsForeign protocol) level
 
   -- an error of another reply, which it is
-  pub refused_form : (level : ℕ) {reply form : Replies A} → reply ≡ form → (e : WriteError)
-      → IsRefused protocol level form e → IsRefused protocol level reply e
-  refused_form level is e = subst (λ r. IsRefused protocol level r e) (sym is)
+  pub refused_form : {T : Type 0} (level : ℕ) {reply form : Replies A} → reply ≡ form
+      → (result : Result T WriteError) → IfErr result (IsRefused protocol level form)
+      → IfErr result (IsRefused protocol level reply)
+  refused_form level is result =
+      subst (λ r. IfErr result (IsRefused protocol level r)) (sym is)
 
   -- ---- aggregates
 

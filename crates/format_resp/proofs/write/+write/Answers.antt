@@ -9,14 +9,15 @@ use Rattle.format_resp.proofs.Made.{big_number_is, boolean_is, bulk_error_is, bu
 use Rattle.format_resp.proofs.Made.{error_is, null_array_is, null_bulk_is, null_is}
 use Rattle.format_resp.proofs.Made.{shaped, simple_is, verbatim_is}
 use Rattle.format_resp.proofs.OnlyTexts.{written_only}
-use Rattle.format_resp.proofs.Rooms.{aggregate_full, data_full, full_err, full_with, integer_full}
-use Rattle.format_resp.proofs.Rooms.{lacks_behind, lacks_first, line_full, null_array_full}
-use Rattle.format_resp.proofs.Rooms.{null_bulk_full, row_behind, row_first}
+use Rattle.format_resp.proofs.Rooms.{aggregate_full, data_err, data_full, full_err, full_with}
+use Rattle.format_resp.proofs.Rooms.{integer_err, lacks_behind, lacks_first, line_err}
+use Rattle.format_resp.proofs.Rooms.{null_array_err, null_bulk_err, row_behind, row_first}
+use Rattle.format_resp.proofs.Rooms.{valid_full}
 use Rattle.format_resp.proofs.Writing.{aggregate_put, among, as_error, data_put, deep_aggregate}
 use Rattle.format_resp.proofs.Writing.{if_error, integer_put, keeps_trans, line_put, list_put}
 use Rattle.format_resp.proofs.Writing.{null_array_put}
 use Rattle.format_resp.proofs.Writing.{null_bulk_put, or_itself, refused_count, refused_foreign}
-use Rattle.format_resp.proofs.Writing.{refused_form, refused_within, row_end, row_more}
+use Rattle.format_resp.proofs.Writing.{refused_form, refused_within, row_end, row_more, valid_put}
 use Rattle.format_resp.specs.Numbers.{IsBigNumber, IsDouble}
 use Rattle.format_resp.specs.Resp.{InLine, WrittenText, gathered}
 use Rattle.format_resp.specs.Written.{IsBroken, marked}
@@ -111,8 +112,7 @@ pub write_list-returns-then-level-eq0-clause-refused :
 write_list-returns-then-level-eq0-clause-refused g t c =
     deep_aggregate c.args.protocol c.args.mark c.args.replies.now (omega arith)
 
-pub write_list-returns-in-None-clause-refused :
-    goal.write_list-returns-in-None-clause-refused
+pub write_list-returns-in-None-clause-refused : goal.write_list-returns-in-None-clause-refused
 write_list-returns-in-None-clause-refused g t c =
     refused_count c.args.protocol c.args.level c.args.mark c.args.replies.now
     (c.len.ensures ∙ c.args.replies.now.ok.0)
@@ -150,66 +150,56 @@ write_nested-returns-then-is_foreign-clause-refused g t c =
 pub write_nested-returns-in-Simple-clause-written :
     goal.write_nested-returns-in-Simple-clause-written
 write_nested-returns-in-Simple-clause-written g t c =
-    on_ok_weaker c.write_text.result
-    (λ told. line_put c.args.protocol c.args.level c.if-is_foreign.ensures Plus _
-    (_, shaped c.in-Simple.is (simple_is _), shown_is (AllByRecursion InLine) _ told.0) told.1)
-    c.write_text.ensures.written
+    valid_put c.args.protocol c.args.level _ _ _ Plus _ c.if-is_foreign.ensures
+    (λ valid. (_, shaped c.in-Simple.is (simple_is _), shown_is (AllByRecursion InLine) _ valid))
+    c.write_text.result c.write_text.ensures.written
 
 pub write_nested-returns-in-Simple-clause-refused :
     goal.write_nested-returns-in-Simple-clause-refused
 write_nested-returns-in-Simple-clause-refused g t c =
-    IfErr-weaker c.write_text.result _ _
-    (as_error c.args.protocol c.args.level _ LineBreak _
-    (λ not. or_itself IsBroken _ (inl (_, shaped c.in-Simple.is (simple_is _), not))))
-    c.write_text.ensures.refused
+    as_error c.args.protocol c.args.level _ LineBreak
+    (λ not. or_itself IsBroken _ (inl (_, shaped c.in-Simple.is (simple_is _), not)))
+    c.write_text.result c.write_text.ensures.refused
 
-pub write_nested-returns-in-Error-clause-written :
-    goal.write_nested-returns-in-Error-clause-written
+pub write_nested-returns-in-Error-clause-written : goal.write_nested-returns-in-Error-clause-written
 write_nested-returns-in-Error-clause-written g t c =
-    on_ok_weaker c.write_text-in-Error.result
-    (λ told. line_put c.args.protocol c.args.level c.if-is_foreign.ensures Minus _
-    (_, shaped c.in-Error.is (error_is _), shown_is (AllByRecursion InLine) _ told.0) told.1)
-    c.write_text-in-Error.ensures.written
+    valid_put c.args.protocol c.args.level _ _ _ Minus _ c.if-is_foreign.ensures
+    (λ valid. (_, shaped c.in-Error.is (error_is _), shown_is (AllByRecursion InLine) _ valid))
+    c.write_text-in-Error.result c.write_text-in-Error.ensures.written
 
-pub write_nested-returns-in-Error-clause-refused :
-    goal.write_nested-returns-in-Error-clause-refused
+pub write_nested-returns-in-Error-clause-refused : goal.write_nested-returns-in-Error-clause-refused
 write_nested-returns-in-Error-clause-refused g t c =
-    IfErr-weaker c.write_text-in-Error.result _ _
-    (as_error c.args.protocol c.args.level _ LineBreak _
-    (λ not. or_itself IsBroken _ (inr (_, shaped c.in-Error.is (error_is _), not))))
-    c.write_text-in-Error.ensures.refused
+    as_error c.args.protocol c.args.level _ LineBreak
+    (λ not. or_itself IsBroken _ (inr (_, shaped c.in-Error.is (error_is _), not)))
+    c.write_text-in-Error.result c.write_text-in-Error.ensures.refused
 
 pub write_nested-returns-in-Double-clause-written :
     goal.write_nested-returns-in-Double-clause-written
 write_nested-returns-in-Double-clause-written g t c =
-    on_ok_weaker c.write_double.result
-    (λ told. line_put c.args.protocol c.args.level c.if-is_foreign.ensures Comma _
-    (_, shaped c.in-Double.is (double_is _), shown_is IsDouble _ told.0) told.1)
-    c.write_double.ensures.written
+    valid_put c.args.protocol c.args.level _ _ _ Comma _ c.if-is_foreign.ensures
+    (λ valid. (_, shaped c.in-Double.is (double_is _), shown_is IsDouble _ valid))
+    c.write_double.result c.write_double.ensures.written
 
 pub write_nested-returns-in-Double-clause-refused :
     goal.write_nested-returns-in-Double-clause-refused
 write_nested-returns-in-Double-clause-refused g t c =
-    IfErr-weaker c.write_double.result _ _
-    (as_error c.args.protocol c.args.level _ Double _
-    (λ not. or_itself _ _ (_, shaped c.in-Double.is (double_is _), not)))
-    c.write_double.ensures.refused
+    as_error c.args.protocol c.args.level _ Double
+    (λ not. or_itself _ _ (_, shaped c.in-Double.is (double_is _), not))
+    c.write_double.result c.write_double.ensures.refused
 
 pub write_nested-returns-in-BigNumber-clause-written :
     goal.write_nested-returns-in-BigNumber-clause-written
 write_nested-returns-in-BigNumber-clause-written g t c =
-    on_ok_weaker c.write_big_number.result
-    (λ told. line_put c.args.protocol c.args.level c.if-is_foreign.ensures Parenthesis _
-    (_, shaped c.in-BigNumber.is (big_number_is _), shown_is IsBigNumber _ told.0) told.1)
-    c.write_big_number.ensures.written
+    valid_put c.args.protocol c.args.level _ _ _ Parenthesis _ c.if-is_foreign.ensures
+    (λ valid. (_, shaped c.in-BigNumber.is (big_number_is _), shown_is IsBigNumber _ valid))
+    c.write_big_number.result c.write_big_number.ensures.written
 
 pub write_nested-returns-in-BigNumber-clause-refused :
     goal.write_nested-returns-in-BigNumber-clause-refused
 write_nested-returns-in-BigNumber-clause-refused g t c =
-    IfErr-weaker c.write_big_number.result _ _
-    (as_error c.args.protocol c.args.level _ BigNumber _
-    (λ not. or_itself _ _ (_, shaped c.in-BigNumber.is (big_number_is _), not)))
-    c.write_big_number.ensures.refused
+    as_error c.args.protocol c.args.level _ BigNumber
+    (λ not. or_itself _ _ (_, shaped c.in-BigNumber.is (big_number_is _), not))
+    c.write_big_number.result c.write_big_number.ensures.refused
 
 pub write_nested-returns-in-Verbatim-clause-written :
     goal.write_nested-returns-in-Verbatim-clause-written
@@ -222,78 +212,60 @@ write_nested-returns-in-Verbatim-clause-written g t c =
 pub write_nested-returns-in-Verbatim-clause-refused :
     goal.write_nested-returns-in-Verbatim-clause-refused
 write_nested-returns-in-Verbatim-clause-refused g t c =
-    IfErr-weaker c.write_verbatim.result _ _
-    (as_error c.args.protocol c.args.level _ Format _
-    (λ not. or_itself _ _ (_, shaped c.in-Verbatim.is (verbatim_is _), not)))
-    c.write_verbatim.ensures.refused
+    as_error c.args.protocol c.args.level _ Format
+    (λ not. or_itself _ _ (_, shaped c.in-Verbatim.is (verbatim_is _), not))
+    c.write_verbatim.result c.write_verbatim.ensures.refused
 
-pub write_nested-returns-in-Array-clause-written :
-    goal.write_nested-returns-in-Array-clause-written
+pub write_nested-returns-in-Array-clause-written : goal.write_nested-returns-in-Array-clause-written
 write_nested-returns-in-Array-clause-written g t c =
-    on_ok_weaker c.write_list.result
-    (list_put c.args.protocol c.args.level Star _ c.in-Array.is c.if-is_foreign.ensures)
-    c.write_list.ensures.written
+    list_put c.args.protocol c.args.level Star _ _ _ c.in-Array.is c.if-is_foreign.ensures
+    c.write_list.result c.write_list.ensures.written
 
-pub write_nested-returns-in-Array-clause-refused :
-    goal.write_nested-returns-in-Array-clause-refused
+pub write_nested-returns-in-Array-clause-refused : goal.write_nested-returns-in-Array-clause-refused
 write_nested-returns-in-Array-clause-refused g t c =
-    IfErr-weaker c.write_list.result _ _ (refused_form c.args.protocol c.args.level c.in-Array.is)
+    refused_form c.args.protocol c.args.level c.in-Array.is c.write_list.result
     c.write_list.ensures.refused
 
-pub write_nested-returns-in-Map-clause-written :
-    goal.write_nested-returns-in-Map-clause-written
+pub write_nested-returns-in-Map-clause-written : goal.write_nested-returns-in-Map-clause-written
 write_nested-returns-in-Map-clause-written g t c =
-    on_ok_weaker c.write_list-in-Map.result
-    (list_put c.args.protocol c.args.level Percent _ c.in-Map.is c.if-is_foreign.ensures)
-    c.write_list-in-Map.ensures.written
+    list_put c.args.protocol c.args.level Percent _ _ _ c.in-Map.is c.if-is_foreign.ensures
+    c.write_list-in-Map.result c.write_list-in-Map.ensures.written
 
-pub write_nested-returns-in-Map-clause-refused :
-    goal.write_nested-returns-in-Map-clause-refused
+pub write_nested-returns-in-Map-clause-refused : goal.write_nested-returns-in-Map-clause-refused
 write_nested-returns-in-Map-clause-refused g t c =
-    IfErr-weaker c.write_list-in-Map.result _ _
-    (refused_form c.args.protocol c.args.level c.in-Map.is)
+    refused_form c.args.protocol c.args.level c.in-Map.is c.write_list-in-Map.result
     c.write_list-in-Map.ensures.refused
 
-pub write_nested-returns-in-Set-clause-written :
-    goal.write_nested-returns-in-Set-clause-written
+pub write_nested-returns-in-Set-clause-written : goal.write_nested-returns-in-Set-clause-written
 write_nested-returns-in-Set-clause-written g t c =
-    on_ok_weaker c.write_list-in-Set.result
-    (list_put c.args.protocol c.args.level Tilde _ c.in-Set.is c.if-is_foreign.ensures)
-    c.write_list-in-Set.ensures.written
+    list_put c.args.protocol c.args.level Tilde _ _ _ c.in-Set.is c.if-is_foreign.ensures
+    c.write_list-in-Set.result c.write_list-in-Set.ensures.written
 
-pub write_nested-returns-in-Set-clause-refused :
-    goal.write_nested-returns-in-Set-clause-refused
+pub write_nested-returns-in-Set-clause-refused : goal.write_nested-returns-in-Set-clause-refused
 write_nested-returns-in-Set-clause-refused g t c =
-    IfErr-weaker c.write_list-in-Set.result _ _
-    (refused_form c.args.protocol c.args.level c.in-Set.is)
+    refused_form c.args.protocol c.args.level c.in-Set.is c.write_list-in-Set.result
     c.write_list-in-Set.ensures.refused
 
-pub write_nested-returns-in-Push-clause-written :
-    goal.write_nested-returns-in-Push-clause-written
+pub write_nested-returns-in-Push-clause-written : goal.write_nested-returns-in-Push-clause-written
 write_nested-returns-in-Push-clause-written g t c =
-    on_ok_weaker c.write_list-in-Push.result
-    (list_put c.args.protocol c.args.level Greater _ c.in-Push.is c.if-is_foreign.ensures)
-    c.write_list-in-Push.ensures.written
+    list_put c.args.protocol c.args.level Greater _ _ _ c.in-Push.is c.if-is_foreign.ensures
+    c.write_list-in-Push.result c.write_list-in-Push.ensures.written
 
-pub write_nested-returns-in-Push-clause-refused :
-    goal.write_nested-returns-in-Push-clause-refused
+pub write_nested-returns-in-Push-clause-refused : goal.write_nested-returns-in-Push-clause-refused
 write_nested-returns-in-Push-clause-refused g t c =
-    IfErr-weaker c.write_list-in-Push.result _ _
-    (refused_form c.args.protocol c.args.level c.in-Push.is)
+    refused_form c.args.protocol c.args.level c.in-Push.is c.write_list-in-Push.result
     c.write_list-in-Push.ensures.refused
 
 pub write_nested-returns-in-Attributed-clause-written :
     goal.write_nested-returns-in-Attributed-clause-written
 write_nested-returns-in-Attributed-clause-written g t c =
-    on_ok_weaker c.write_list-in-Attributed.result
-    (list_put c.args.protocol c.args.level Bar _ c.in-Attributed.is c.if-is_foreign.ensures)
-    c.write_list-in-Attributed.ensures.written
+    list_put c.args.protocol c.args.level Bar _ _ _ c.in-Attributed.is c.if-is_foreign.ensures
+    c.write_list-in-Attributed.result c.write_list-in-Attributed.ensures.written
 
 pub write_nested-returns-in-Attributed-clause-refused :
     goal.write_nested-returns-in-Attributed-clause-refused
 write_nested-returns-in-Attributed-clause-refused g t c =
-    IfErr-weaker c.write_list-in-Attributed.result _ _
-    (refused_form c.args.protocol c.args.level c.in-Attributed.is)
+    refused_form c.args.protocol c.args.level c.in-Attributed.is c.write_list-in-Attributed.result
     c.write_list-in-Attributed.ensures.refused
 
 pub write_nested-returns-in_ok-write_integer-in-Integer-clause-written :
@@ -349,96 +321,73 @@ write_nested-returns-in_ok-write_line-in-NullArray-clause-written g t c =
 pub write_nested-returns-in_err-write_integer-in-Integer-clause-full :
     goal.write_nested-returns-in_err-write_integer-in-Integer-clause-full
 write_nested-returns-in_err-write_integer-in-Integer-clause-full g t c =
-    full_err (WrittenText c.args.protocol c.args.level) c.args.reply.now c.args.into.now
-    c.from_residual.result
-    (integer_full c.args.protocol c.args.level c.args.reply.now c.args.into.now
-    _ c.in_err-write_integer-in-Integer.ensures.full (search (rules, c.in-Integer.is))
-    (search rules))
+    integer_err c.args.protocol c.args.level _ c.args.into.now _ _
+    c.in_err-write_integer-in-Integer.ensures.full (search (rules, c.in-Integer.is)) (search rules)
 
 pub write_nested-returns-in_err-write_line-in-Null-clause-full :
     goal.write_nested-returns-in_err-write_line-in-Null-clause-full
 write_nested-returns-in_err-write_line-in-Null-clause-full g t c =
-    full_err (WrittenText c.args.protocol c.args.level) c.args.reply.now c.args.into.now
-    c.from_residual-in_err-write_line-in-Null.result
-    (line_full c.args.protocol c.args.level c.args.reply.now c.args.into.now Underscore
-    [] (shaped c.in-Null.is null_is, refl) c.in_err-write_line-in-Null.ensures.full)
+    line_err c.args.protocol c.args.level _ c.args.into.now _ Underscore []
+    (shaped c.in-Null.is null_is, refl) c.in_err-write_line-in-Null.ensures.full
 
 pub write_nested-returns-in_err-write_line-in-Boolean-clause-full :
     goal.write_nested-returns-in_err-write_line-in-Boolean-clause-full
 write_nested-returns-in_err-write_line-in-Boolean-clause-full g t c =
-    full_err (WrittenText c.args.protocol c.args.level) c.args.reply.now c.args.into.now
-    c.from_residual-in_err-write_line-in-Boolean.result
-    (line_full c.args.protocol c.args.level c.args.reply.now c.args.into.now Hash
-    c.boolean_text.result.now (_, shaped c.in-Boolean.is (boolean_is _), c.boolean_text.ensures)
-    c.in_err-write_line-in-Boolean.ensures.full)
+    line_err c.args.protocol c.args.level _ c.args.into.now _ Hash _
+    (_, shaped c.in-Boolean.is (boolean_is _), c.boolean_text.ensures)
+    c.in_err-write_line-in-Boolean.ensures.full
 
 pub write_nested-returns-in_err-write_data-in-Bulk-clause-full :
     goal.write_nested-returns-in_err-write_data-in-Bulk-clause-full
 write_nested-returns-in_err-write_data-in-Bulk-clause-full g t c =
-    full_err (WrittenText c.args.protocol c.args.level) c.args.reply.now c.args.into.now
-    c.from_residual-in_err-write_data-in-Bulk.result
-    (data_full c.args.protocol c.args.level c.args.reply.now c.args.into.now Dollar _
-    (shaped c.in-Bulk.is (bulk_is _)) tt (search rules) c.in_err-write_data-in-Bulk.ensures.full)
+    data_err c.args.protocol c.args.level _ c.args.into.now _ Dollar _
+    (shaped c.in-Bulk.is (bulk_is _)) tt (search rules) c.in_err-write_data-in-Bulk.ensures.full
 
 pub write_nested-returns-in_err-write_data-in-BulkError-clause-full :
     goal.write_nested-returns-in_err-write_data-in-BulkError-clause-full
 write_nested-returns-in_err-write_data-in-BulkError-clause-full g t c =
-    full_err (WrittenText c.args.protocol c.args.level) c.args.reply.now c.args.into.now
-    c.from_residual-in_err-write_data-in-BulkError.result
-    (data_full c.args.protocol c.args.level c.args.reply.now c.args.into.now Exclamation
-    _ (shaped c.in-BulkError.is (bulk_error_is _)) tt (search rules)
-    c.in_err-write_data-in-BulkError.ensures.full)
+    data_err c.args.protocol c.args.level _ c.args.into.now _ Exclamation _
+    (shaped c.in-BulkError.is (bulk_error_is _)) tt (search rules)
+    c.in_err-write_data-in-BulkError.ensures.full
 
 pub write_nested-returns-in_err-write_line-in-NullBulk-clause-full :
     goal.write_nested-returns-in_err-write_line-in-NullBulk-clause-full
 write_nested-returns-in_err-write_line-in-NullBulk-clause-full g t c =
-    full_err (WrittenText c.args.protocol c.args.level) c.args.reply.now c.args.into.now
-    c.from_residual-in_err-write_line-in-NullBulk.result
-    (null_bulk_full c.args.protocol c.args.level c.args.reply.now c.args.into.now
-    (shaped c.in-NullBulk.is null_bulk_is) c.in_err-write_line-in-NullBulk.ensures.full)
+    null_bulk_err c.args.protocol c.args.level _ c.args.into.now _
+    (shaped c.in-NullBulk.is null_bulk_is) c.in_err-write_line-in-NullBulk.ensures.full
 
 pub write_nested-returns-in_err-write_line-in-NullArray-clause-full :
     goal.write_nested-returns-in_err-write_line-in-NullArray-clause-full
 write_nested-returns-in_err-write_line-in-NullArray-clause-full g t c =
-    full_err (WrittenText c.args.protocol c.args.level) c.args.reply.now c.args.into.now
-    c.from_residual-in_err-write_line-in-NullArray.result
-    (null_array_full c.args.protocol c.args.level c.args.reply.now c.args.into.now
-    (shaped c.in-NullArray.is null_array_is) c.in_err-write_line-in-NullArray.ensures.full)
+    null_array_err c.args.protocol c.args.level _ c.args.into.now _
+    (shaped c.in-NullArray.is null_array_is) c.in_err-write_line-in-NullArray.ensures.full
 
-pub write_nested-returns-in-Simple-clause-full :
-    goal.write_nested-returns-in-Simple-clause-full
+pub write_nested-returns-in-Simple-clause-full : goal.write_nested-returns-in-Simple-clause-full
 write_nested-returns-in-Simple-clause-full g t c =
-    full_with (WrittenText c.args.protocol c.args.level) c.args.reply.now c.args.into.now
-    c.write_text.result c.write_text.ensures.full
-    (λ valid. line_full c.args.protocol c.args.level c.args.reply.now c.args.into.now Plus _
-    (_, shaped c.in-Simple.is (simple_is _), shown_is (AllByRecursion InLine) _ valid))
+    valid_full c.args.protocol c.args.level _ c.args.into.now _ Plus _
+    (λ valid. (_, shaped c.in-Simple.is (simple_is _), shown_is (AllByRecursion InLine) _ valid))
+    c.write_text.ensures.full
 
-pub write_nested-returns-in-Error-clause-full :
-    goal.write_nested-returns-in-Error-clause-full
+pub write_nested-returns-in-Error-clause-full : goal.write_nested-returns-in-Error-clause-full
 write_nested-returns-in-Error-clause-full g t c =
-    full_with (WrittenText c.args.protocol c.args.level) c.args.reply.now c.args.into.now
-    c.write_text-in-Error.result c.write_text-in-Error.ensures.full
-    (λ valid. line_full c.args.protocol c.args.level c.args.reply.now c.args.into.now Minus _
-    (_, shaped c.in-Error.is (error_is _), shown_is (AllByRecursion InLine) _ valid))
+    valid_full c.args.protocol c.args.level _ c.args.into.now _ Minus _
+    (λ valid. (_, shaped c.in-Error.is (error_is _), shown_is (AllByRecursion InLine) _ valid))
+    c.write_text-in-Error.ensures.full
 
-pub write_nested-returns-in-Double-clause-full :
-    goal.write_nested-returns-in-Double-clause-full
+pub write_nested-returns-in-Double-clause-full : goal.write_nested-returns-in-Double-clause-full
 write_nested-returns-in-Double-clause-full g t c =
-    full_with (WrittenText c.args.protocol c.args.level) c.args.reply.now c.args.into.now
-    c.write_double.result c.write_double.ensures.full
-    (λ valid. line_full c.args.protocol c.args.level c.args.reply.now c.args.into.now Comma _
-    (_, shaped c.in-Double.is (double_is _), shown_is IsDouble _ valid))
+    valid_full c.args.protocol c.args.level _ c.args.into.now _ Comma _
+    (λ valid. (_, shaped c.in-Double.is (double_is _), shown_is IsDouble _ valid))
+    c.write_double.ensures.full
 
 pub write_nested-returns-in-BigNumber-clause-full :
     goal.write_nested-returns-in-BigNumber-clause-full
 write_nested-returns-in-BigNumber-clause-full g t c =
-    full_with (WrittenText c.args.protocol c.args.level) c.args.reply.now c.args.into.now
-    c.write_big_number.result c.write_big_number.ensures.full
-    (λ valid. line_full c.args.protocol c.args.level c.args.reply.now c.args.into.now Parenthesis _
-    (_, shaped c.in-BigNumber.is (big_number_is _), shown_is IsBigNumber _ valid))
+    valid_full c.args.protocol c.args.level _ c.args.into.now _ Parenthesis _
+    (λ valid. (_, shaped c.in-BigNumber.is (big_number_is _), shown_is IsBigNumber _ valid))
+    c.write_big_number.ensures.full
 
-pub write_nested-returns-in-Verbatim-clause-full :
-    goal.write_nested-returns-in-Verbatim-clause-full
+pub write_nested-returns-in-Verbatim-clause-full : goal.write_nested-returns-in-Verbatim-clause-full
 write_nested-returns-in-Verbatim-clause-full g t c =
     full_with (WrittenText c.args.protocol c.args.level) c.args.reply.now c.args.into.now
     c.write_verbatim.result c.write_verbatim.ensures.full
