@@ -119,6 +119,12 @@ IsWanting protocol extent tokens None =
     (rest : List ℕ) × Passed protocol extent tokens rest × Wants protocol extent.bulk rest
 IsWanting protocol extent tokens (Some n) = ⊤
 
+-- The length that was found, or the offset of the error, is at most `size`.
+abbrev pub StopsWithin : ℕ → Result (Option ℕ) Invalid → Type 0
+StopsWithin size (Ok (Some n)) = n ≤ size
+StopsWithin size (Ok None) = ⊤
+StopsWithin size (Err invalid) = invalid.offset ≤ size
+
 -- ---- one step
 
 -- the continuation after a first line that is followed by `n` other replies
@@ -165,6 +171,13 @@ abbrev pub IsLessPart : {E : Type 0} → ℕ → Result (Option (Bor (List ℕ))
 IsLessPart n (Ok (Some left)) = length left.now < n
 IsLessPart n (Ok None) = ⊤
 IsLessPart n (Err reason) = ⊤
+
+-- Of `size` bytes, those after the ones that the extent has passed are the rest after a part; the
+-- offset of an error is at most `size`.
+abbrev pub IsWithin : ℕ → Extent → Result (Option (Bor (List ℕ))) Invalid → Type 0
+IsWithin size extent (Ok (Some left)) = extent.passed + length left.now ≡ size
+IsWithin size extent (Ok None) = ⊤
+IsWithin size extent (Err invalid) = invalid.offset ≤ size
 
 -- One more part is passed; or it is incomplete, and the bytes do not start with a reply; or no
 -- continuation does.

@@ -4,11 +4,12 @@
 //! not examined. So the time to find a reply is linear in its bytes. One call of
 //! [`read_reply`](crate::read::read_reply) then reads it.
 ghost use Rattle.format_resp.specs.Extents.{IsDataEnd, IsLessPart, IsOf, IsPart};
-ghost use Rattle.format_resp.specs.Extents.{IsReply, IsStringEnd, IsWanting, MatchesAtStart};
-ghost use Rattle.format_resp.specs.Extents.{Passed, ReplyResult, count_after, data_after};
+ghost use Rattle.format_resp.specs.Extents.{IsReply, IsStringEnd, IsWanting, IsWithin};
+ghost use Rattle.format_resp.specs.Extents.{MatchesAtStart, Passed, ReplyResult, count_after};
+ghost use Rattle.format_resp.specs.Extents.{StopsWithin, data_after};
 ghost use Rattle.format_resp.specs.Resp.{Fits, Replies, ReplyText};
 ghost use Rattle.format_resp.specs.declared.reply.Protocol.{Protocol};
-ghost use Rattle.std.specs.Prelude.{◌≡◌, ◌≤◌, ◌^◌, ◌++◌, ℕ, List, None, Some, length};
+ghost use Rattle.std.specs.Prelude.{◌≡◌, ◌≤◌, ◌+◌, ◌^◌, ◌++◌, ℕ, List, None, Some, length};
 ghost use Rattle.std.specs.Prelude.{IfOk, IfSome, MatchBool, OnOk, suc};
 ghost use Rattle.winnow_grammar.specs.InTurn.{First};
 
@@ -181,11 +182,12 @@ impl Extent {
         bytes: &[u8],
         rest: &'i [u8],
     ) -> Result<Option<&'i [u8]>, Invalid>
-        requires within { length rest.now ≤ length bytes.now }
+        requires within { self.old.passed + length rest.now ≡ length bytes.now }
         requires due { self.old.bulk ≡ Some bulk }
         ensures told { Passed protocol self.old bytes.now rest.now
             → IsPart protocol self.new bytes.now rest.now result }
         ensures less { IsLessPart (length rest.now) result }
+        ensures within { IsWithin (length bytes.now) self.new result }
     {
         match skip_string(bulk, rest) {
             Err(reason) => Err(Invalid {
@@ -214,12 +216,13 @@ impl Extent {
         bytes: &[u8],
         rest: &'i [u8],
     ) -> Result<Option<&'i [u8]>, Invalid>
-        requires within { length rest.now ≤ length bytes.now }
+        requires within { self.old.passed + length rest.now ≡ length bytes.now }
         requires due { self.old.bulk ≡ None }
         requires one { self.old.replies ≡ suc others }
         ensures told { Passed protocol self.old bytes.now rest.now
             → IsPart protocol self.new bytes.now rest.now result }
         ensures less { IsLessPart (length rest.now) result }
+        ensures within { IsWithin (length bytes.now) self.new result }
     {
         match start_of(protocol, rest, self.sought) {
             Start::Never(reason) => Err(Invalid {
@@ -256,13 +259,14 @@ impl Extent {
         bytes: &[u8],
         from: &[u8],
     ) -> Result<Option<usize>, Invalid>
-        requires within { length from.now ≤ length bytes.now }
+        requires within { self.old.passed + length from.now ≡ length bytes.now }
         ensures told { Passed protocol self.old bytes.now from.now
             → ReplyResult protocol bytes.now result }
         ensures kept { OnOk result (Passed protocol self.old bytes.now from.now
             → (rest : List ℕ) × Passed protocol self.new bytes.now rest) }
         ensures wants { Passed protocol self.old bytes.now from.now
             → IfOk result (IsWanting protocol self.new bytes.now) }
+        ensures within { StopsWithin (length bytes.now) result }
     {
         let mut rest = from;
         'parts: loop {
@@ -294,7 +298,7 @@ impl Extent {
     /// [`bounded_length`](crate::bounded::bounded_length) and
     /// [`read_reply`](crate::read::read_reply) check it once the reply is complete. The result is
     /// specified only if the extent is of these bytes: if it was used for others, the result may be
-    /// wrong.
+    /// wrong, but the length and the offset are at most the number of bytes.
     ///
     /// ```
     /// use format_resp::extent::Extent;
@@ -316,6 +320,7 @@ impl Extent {
             → (more : List ℕ) → IsOf protocol self.new (bytes.now ++ more)) }
         ensures wants { IsOf protocol self.old bytes.now
             → IfOk result (IsWanting protocol self.new bytes.now) }
+        ensures within { StopsWithin (length bytes.now) result }
     {
         match bytes.get(self.passed..) {
             None => Ok(None),
