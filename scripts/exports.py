@@ -14,7 +14,7 @@ STRUCT = re.compile(r"pub struct (\w+)(?:<'\w+>)? \{\n(.*?)\n\}", re.DOTALL)
 KINDS = {
     "JSON_ERROR_": ("json_error", "The errors of JSON texts.", ("JsonDiagnostic", "error")),
     "JSON_": ("json_kind", "The kinds of JSON items.", ("JsonItem", "JsonNode", "kind")),
-    "RESP_": ("resp_kind", "The kinds of Redis replies.", ("Reply", "kind")),
+    "RESP_": ("resp_kind", "The kinds of Redis replies.", ("Reply", "RespNode", "kind")),
     "TOML_ERROR_": ("toml_error", "The errors of TOML documents.", ("TomlResult", "error")),
     "TOML_": ("toml_kind", "The kinds of TOML nodes.", ("TomlValue", "kind")),
     "CHUNKED_ERROR_": ("chunked_error", "The errors of chunked bodies.", ("ChunkedStep", "error")),

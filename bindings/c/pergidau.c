@@ -226,6 +226,14 @@ uint32_t exported_resp_command(
     uint8_t *buffer,
     size_t buffer_length,
     size_t *out);
+uint32_t exported_resp_nodes(
+    const uint8_t *bytes,
+    size_t bytes_length,
+    uint32_t protocol,
+    size_t max_depth,
+    struct pergidau_resp_node *nodes,
+    size_t nodes_length,
+    struct pergidau_resp_nodes_size *out);
 uint32_t exported_text_position(
     const uint8_t *bytes,
     size_t bytes_length,
@@ -1689,6 +1697,41 @@ enum pergidau_code pergidau_resp_command(
         buffer = &no_buffer;
     }
     return (enum pergidau_code)exported_resp_command(parts, parts_length, buffer, buffer_length, out);
+}
+
+enum pergidau_code pergidau_resp_nodes(
+    const uint8_t *bytes,
+    size_t bytes_length,
+    uint32_t protocol,
+    size_t max_depth,
+    struct pergidau_resp_node *nodes,
+    size_t nodes_length,
+    struct pergidau_resp_nodes_size *out)
+{
+    const uint8_t no_bytes = {0};
+    struct pergidau_resp_node no_nodes = {0};
+    if (bytes_length > PTRDIFF_MAX / sizeof(uint8_t)) {
+        return PERGIDAU_TOO_LONG;
+    }
+    if (bytes == NULL && bytes_length > 0) {
+        return PERGIDAU_NULL;
+    }
+    if (nodes_length > PTRDIFF_MAX / sizeof(struct pergidau_resp_node)) {
+        return PERGIDAU_TOO_LONG;
+    }
+    if (nodes == NULL && nodes_length > 0) {
+        return PERGIDAU_NULL;
+    }
+    if (out == NULL) {
+        return PERGIDAU_NULL;
+    }
+    if (bytes == NULL) {
+        bytes = &no_bytes;
+    }
+    if (nodes == NULL) {
+        nodes = &no_nodes;
+    }
+    return (enum pergidau_code)exported_resp_nodes(bytes, bytes_length, protocol, max_depth, nodes, nodes_length, out);
 }
 
 enum pergidau_code pergidau_text_position(

@@ -1069,6 +1069,44 @@ struct pergidau_resp_reply_state {
     size_t high;
 };
 
+/* A reply, which may be in another. Offsets are in bytes from the start of the input. */
+struct pergidau_resp_node {
+    /*
+     * The kind of the reply: one of the constants from PERGIDAU_RESP_SIMPLE to
+     * PERGIDAU_RESP_ATTRIBUTES.
+     */
+    enum pergidau_resp_kind kind;
+    /* The number of an integer; 1 for true; 0 otherwise. */
+    int64_t number;
+    /*
+     * The number of elements of an array, a set or a push; of a map or attributes the number
+     * of all replies in them, but not of those in these; 0 otherwise.
+     */
+    size_t elements;
+    /*
+     * The offset of the bytes of a string, an error, a double or a big number, or of the first
+     * element; 0 otherwise.
+     */
+    size_t start;
+    /* The offset after these bytes, or after the last element; 0 otherwise. */
+    size_t end;
+    /*
+     * The index of the node after it and everything in it. It is the number of nodes if no
+     * node follows.
+     */
+    size_t next;
+};
+
+/* The size of a reply as nodes. */
+struct pergidau_resp_nodes_size {
+    /* How many nodes there are. */
+    size_t count;
+    /* How many bytes the reply has. */
+    size_t length;
+    /* The offset of the error in bytes; 0 otherwise. */
+    size_t error_offset;
+};
+
 /* A place in a text, as a reader of the text would say it. */
 struct pergidau_position {
     /* The number of the line, from 1 on. */
@@ -2364,8 +2402,11 @@ enum pergidau_code pergidau_pair_document(
  * is RESP2, the second, which has only the kinds up to PERGIDAU_RESP_NULL_ARRAY.
  *
  * To parse the elements of an aggregate, call the function with the bytes in its span, and
- * then with those after each element. An integer may have a sign and leading zeros, a size
- * leading zeros. -1 is the size of a null. Streamed strings and aggregates are invalid.
+ * then with those after each element. So a walk through all levels reads each byte once for
+ * each level that contains it; pergidau_resp_nodes writes all levels in one pass.
+ *
+ * An integer may have a sign and leading zeros, a size leading zeros. -1 is the size of a
+ * null. Streamed strings and aggregates are invalid.
  *
  * PERGIDAU_DONE: the reply is written.
  *
@@ -2456,7 +2497,8 @@ enum pergidau_code pergidau_resp_reply_partial(
  * bytes of a string are missing. 0 is written.
  *
  * If state belongs to other bytes or was modified, the result may be wrong, but nothing
- * outside bytes is read.
+ * outside bytes is read, and the length or the offset that is written is at most the number of
+ * bytes.
  *
  * # Errors
  *
@@ -2512,6 +2554,60 @@ enum pergidau_code pergidau_resp_command(
     uint8_t *buffer,
     size_t buffer_length,
     size_t *out);
+
+/*
+ * Finds the Redis reply at the start of bytes, as pergidau_resp_reply_partial does, and writes
+ * all replies in it as nodes, in one pass and without allocating. protocol and max_depth are
+ * as there.
+ *
+ * The first node is that of the reply. The node of an aggregate is followed by those of its
+ * elements, in the order of the bytes, each with all nodes in it. Each node has the index
+ * after everything in it, so that a loop can skip an aggregate in one step.
+ *
+ * PERGIDAU_DONE: the nodes are written, and their number and the length of the reply. Other
+ * entries of nodes are unchanged.
+ *
+ * PERGIDAU_INCOMPLETE: bytes does not start with a reply yet: its last line has not ended, or
+ * bytes of a string are missing. Zeros are written, and the contents of nodes are unspecified.
+ *
+ * Each call starts at the first byte; pergidau_resp_extent finds the end of a reply that
+ * arrives in chunks. The time is linear in the bytes, at any depth.
+ *
+ * # Errors
+ *
+ * PERGIDAU_BUFFER_TOO_SMALL: the reply has more nodes than nodes has entries. The first are
+ * written, and the number of all, with the length. So a call without entries returns the
+ * required number.
+ *
+ * After the next three, bytes does not start with a reply, regardless of what follows. The
+ * offset of the first part that is rejected is written, as by pergidau_resp_reply: a line, or
+ * the bytes of a string. The contents of nodes are unspecified.
+ *
+ * PERGIDAU_INVALID: that part is malformed.
+ *
+ * PERGIDAU_OUT_OF_RANGE: that line has an integer or a size that does not fit a signed 64-bit
+ * integer, or an aggregate has too many parts.
+ *
+ * PERGIDAU_TOO_DEEP: that line is the one of an aggregate that is nested deeper than
+ * max_depth.
+ *
+ * PERGIDAU_MAX_DEPTH_TOO_LARGE: max_depth is above 512. Zeros are written, and nodes is
+ * unchanged.
+ *
+ * # Safety
+ *
+ * bytes must be valid for reads of bytes_length bytes, which must not change during the call.
+ * nodes must be valid for writes of nodes_length entries, and out for writes of one entry.
+ * None of these may overlap. The call needs 512 KiB of stack.
+ */
+enum pergidau_code pergidau_resp_nodes(
+    const uint8_t *bytes,
+    size_t bytes_length,
+    uint32_t protocol,
+    size_t max_depth,
+    struct pergidau_resp_node *nodes,
+    size_t nodes_length,
+    struct pergidau_resp_nodes_size *out);
 
 /*
  * Computes the line and the column of the position after the first offset bytes. Bytes after

@@ -629,6 +629,22 @@ inline result<std::size_t> resp_command(view<const pergidau_bytes> parts, output
     return out;
 }
 
+/*
+ * Finds the Redis reply at the start of bytes, as resp_reply_partial does, and writes all
+ * replies in it as nodes, in one pass and without allocating.
+ */
+inline result<pergidau_resp_nodes_size> resp_nodes(
+    input bytes,
+    std::uint32_t protocol,
+    std::size_t max_depth,
+    view<pergidau_resp_node> nodes) noexcept
+{
+    result<pergidau_resp_nodes_size> out{};
+    out.code = pergidau_resp_nodes(
+        bytes.data(), bytes.size(), protocol, max_depth, nodes.data(), nodes.size(), &out.value);
+    return out;
+}
+
 /* Computes the line and the column of the position after the first offset bytes. */
 inline result<pergidau_position> text_position(input bytes, std::size_t offset) noexcept
 {

@@ -60,7 +60,7 @@ void *__wrap_realloc(void *block, size_t size)
 
 enum call { CALC, PAIR, DOCUMENT, ENTRY, LOOKUP, CHECK, VALUE, NEXT, STEP, STRING, INTEGER, NATURAL, DECIMAL, DIAGNOSE, MEMBER, NODES, HEAD,
             HEAD_IN_PIECES, HEAD_EXTENT, REQUEST_BODY, FIELD, RESPONSE, RESPONSE_IN_PIECES, RESPONSE_EXTENT, RECORD, RECORD_IN_PIECES,
-            RECORD_EXTENT, CSV_WRITE, REPLY, REPLY_IN_PIECES, EXTENT, COMMAND, CHUNKED, POSITION,
+            RECORD_EXTENT, CSV_WRITE, REPLY, REPLY_IN_PIECES, EXTENT, RESP_NODES, COMMAND, CHUNKED, POSITION,
             TOML, DNS_HEADER, DNS_NAME, DNS_QUESTION, DNS_RECORD };
 static const char *const names[] = {
     "calc_value", "pair_line", "pair_document", "ini_next", "ini_get", "json_check", "json_value", "json_next",
@@ -69,7 +69,7 @@ static const char *const names[] = {
     "http_head_extent", "http_request_body", "http_field", "http_response_head", "http_response_head_partial",
     "http_response_head_extent", "csv_record",
     "csv_record_partial", "csv_record_extent", "csv_write", "resp_reply", "resp_reply_partial",
-    "resp_extent", "resp_command", "http_chunked", "text_position", "toml_document",
+    "resp_extent", "resp_nodes", "resp_command", "http_chunked", "text_position", "toml_document",
     "dns_message_header", "dns_name_at", "dns_question_at", "dns_record_at",
 };
 
@@ -163,6 +163,9 @@ static const struct {
     {REPLY_IN_PIECES, "", "*1\r\n", ":1\r\n", 512, 32, 512},
     {REPLY_IN_PIECES, "*262144\r\n", ":1\r\n", "", 262144, 32, 512},
     {REPLY_IN_PIECES, "*262145\r\n", ":1\r\n", "", 262144, 32, 512},
+    {RESP_NODES, "", "*1\r\n", ":1\r\n", 512, 0, 512},
+    {RESP_NODES, "", "*1\r\n", ":1\r\n", LENGTH / 4, 0, 512},
+    {RESP_NODES, "*262144\r\n", ":1\r\n", "", 262144, 0, 512},
     {EXTENT, "*262144\r\n", ":1\r\n", "", 262144, 0, 16},
     {EXTENT, "", "*1\r\n", ":1\r\n", LENGTH / 4, 0, 16},
     {EXTENT, "+", "a", "", LENGTH, 0, 16},
@@ -218,6 +221,7 @@ static enum pergidau_code call(enum call which, size_t max_depth)
     const struct pergidau_csv_dialect lines = {',', '"', PERGIDAU_CSV_LF};
     struct pergidau_reply reply;
     struct pergidau_resp_reply_state state = {0};
+    struct pergidau_resp_nodes_size size;
     /* Without limits, so that all bytes are consumed. */
     struct pergidau_chunked_state chunked = {1, 0, 0, SIZE_MAX, SIZE_MAX, SIZE_MAX, SIZE_MAX};
     struct pergidau_chunked_step step;
@@ -293,6 +297,8 @@ static enum pergidau_code call(enum call which, size_t max_depth)
         return pergidau_resp_reply_partial(bytes, length, 2, max_depth, &reply);
     case EXTENT:
         return pergidau_resp_extent(&state, bytes, length, 2, &found);
+    case RESP_NODES:
+        return pergidau_resp_nodes(bytes, length, 2, max_depth, NULL, 0, &size);
     case COMMAND:
         return pergidau_resp_command(&slice, 1, written, sizeof written, &found);
     case CHUNKED:

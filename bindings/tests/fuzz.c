@@ -422,6 +422,7 @@ static void read_chunked(const uint8_t *bytes, size_t length)
 #include "json_fuzz.h"
 #include "json_lookup_fuzz.h"
 #include "json_nodes_fuzz.h"
+#include "resp_nodes_fuzz.h"
 #include "toml_fuzz.h"
 #include "writing_fuzz.h"
 
@@ -451,6 +452,7 @@ static void read_all(const uint8_t *bytes, size_t length)
     read_record_extent(bytes, length);
     read_reply(bytes, length);
     read_extent(bytes, length);
+    read_resp_nodes(bytes, length);
     read_chunked(bytes, length);
     read_body(bytes, length);
     read_toml(bytes, length);

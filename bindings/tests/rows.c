@@ -916,6 +916,10 @@ static void test_extents(void)
     (void)pergidau_resp_extent(&state, bytes, 3, 2, &end);
     state = (struct pergidau_resp_reply_state){1, 1, SIZE_MAX, 0, 0, 0};
     (void)pergidau_resp_extent(&state, bytes, 3, 2, &end);
+    /* What is written is within the input. */
+    state = (struct pergidau_resp_reply_state){1, 1, 0, 0, 0, 0};
+    (void)pergidau_resp_extent(&state, NULL, 0, 2, &end);
+    same("an extent within the input", "", (long long)end, 0);
 }
 
 /* The result of decoding a chunked body by successive calls: its content, its trailers, and the result
@@ -1290,6 +1294,7 @@ static void test_library(void)
 #include "bodies_rows.h"
 #include "dns_rows.h"
 #include "heads_rows.h"
+#include "resp_nodes_rows.h"
 #include "writing_rows.h"
 
 int main(void)
@@ -1318,6 +1323,7 @@ int main(void)
     test_record_extents();
     test_replies();
     test_extents();
+    test_resp_nodes();
     test_bodies();
     test_body_lengths();
     test_fields();

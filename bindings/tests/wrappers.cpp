@@ -163,6 +163,8 @@ static void resp()
     EXPECT(pergidau::resp_reply_partial(":7", 2, 0).code == PERGIDAU_INCOMPLETE);
     pergidau_resp_reply_state state{};
     EXPECT(*pergidau::resp_extent(state, ":7\r\n+", 2) == 4);
+    std::vector<pergidau_resp_node> nodes(4);
+    EXPECT(pergidau::resp_nodes("*1\r\n:7\r\n+", 2, 1, nodes)->count == 2 && nodes[1].number == 7);
 }
 
 int main()

@@ -9,6 +9,8 @@ mod leaves;
 #[cfg(test)]
 mod level;
 #[cfg(test)]
+mod nodes;
+#[cfg(test)]
 mod numbers;
 #[cfg(test)]
 mod pieces;

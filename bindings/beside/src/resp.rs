@@ -1,7 +1,8 @@
 //! Readers of Redis replies. Each reply is counted, also inside arrays; the sum is of the integers and
 //! of the lengths of the strings.
 use crate::text::{Outcome, Text};
-use pergidau::resp::{self, Extent, Protocol, Reply};
+use pergidau::resp::{self, Extent, Item, Node, Protocol, Reply};
+use pergidau::Error;
 
 /// The size of the chunks in bytes, for incremental readers: the payload of a packet.
 const PIECE: usize = 1460;
@@ -28,6 +29,31 @@ pub fn replies(text: &Text) -> Outcome {
         rest = behind;
     }
     out
+}
+
+fn count_item(item: Item, out: &mut Outcome) {
+    match item.reply() {
+        Reply::Array(_) => {
+            out.add(0);
+            item.elements().for_each(|it| count_item(it, out));
+        }
+        reply => count(reply, out),
+    }
+}
+
+pub fn replies_by_nodes(text: &Text) -> Outcome {
+    let (mut out, mut rest) = (Outcome::default(), text.bytes());
+    let mut room = vec![Node::default(); 16];
+    loop {
+        match resp::nodes(rest, Protocol::Resp2, LEVELS, &mut room) {
+            Ok((nodes, behind)) => {
+                count_item(nodes.root(), &mut out);
+                rest = behind;
+            }
+            Err(Error::BufferTooSmall(required)) => room.resize(required.entries, Node::default()),
+            Err(_) => return out,
+        }
+    }
 }
 
 pub fn replies_in_pieces(text: &Text) -> Outcome {

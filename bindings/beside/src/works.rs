@@ -69,6 +69,7 @@ const RECORDS_WITH_SEMICOLONS: &[(&str, Reader)] = &[
 ];
 const REPLIES: &[(&str, Reader)] = &[
     ("this library", resp::replies),
+    ("this library, by nodes", resp::replies_by_nodes),
     ("hiredis, which keeps them", peers::replies_by_hiredis),
     ("hiredis, which tells them", peers::replies_told_by_hiredis),
 ];

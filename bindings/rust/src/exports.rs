@@ -1056,6 +1056,39 @@ pub struct RespReplyState {
     pub high: usize,
 }
 
+/// A reply, which may be in another. Offsets are in bytes from the start of the input.
+#[repr(C)]
+#[derive(Clone, Copy, Debug, Default, PartialEq, Eq)]
+pub struct RespNode {
+    /// The kind of the reply: one of the constants from `RESP_SIMPLE` to `RESP_ATTRIBUTES`.
+    pub kind: u32,
+    /// The number of an integer; 1 for true; 0 otherwise.
+    pub number: i64,
+    /// The number of elements of an array, a set or a push; of a map or attributes the number of
+    /// all replies in them, but not of those in these; 0 otherwise.
+    pub elements: usize,
+    /// The offset of the bytes of a string, an error, a double or a big number, or of the first
+    /// element; 0 otherwise.
+    pub start: usize,
+    /// The offset after these bytes, or after the last element; 0 otherwise.
+    pub end: usize,
+    /// The index of the node after it and everything in it. It is the number of nodes if no node
+    /// follows.
+    pub next: usize,
+}
+
+/// The size of a reply as nodes.
+#[repr(C)]
+#[derive(Clone, Copy, Debug, Default, PartialEq, Eq)]
+pub struct RespNodesSize {
+    /// How many nodes there are.
+    pub count: usize,
+    /// How many bytes the reply has.
+    pub length: usize,
+    /// The offset of the error in bytes; 0 otherwise.
+    pub error_offset: usize,
+}
+
 /// A place in a text, as a reader of the text would say it.
 #[repr(C)]
 #[derive(Clone, Copy, Debug, Default, PartialEq, Eq)]
@@ -2298,8 +2331,11 @@ extern "C" {
     /// RESP2, the second, which has only the kinds up to `RESP_NULL_ARRAY`.
     ///
     /// To parse the elements of an aggregate, call the function with the bytes in its span, and then
-    /// with those after each element. An integer may have a sign and leading zeros, a size leading
-    /// zeros. `-1` is the size of a null. Streamed strings and aggregates are invalid.
+    /// with those after each element. So a walk through all levels reads each byte once for each level
+    /// that contains it; `exported_resp_nodes` writes all levels in one pass.
+    ///
+    /// An integer may have a sign and leading zeros, a size leading zeros. `-1` is the size of a null.
+    /// Streamed strings and aggregates are invalid.
     ///
     /// `DONE`: the reply is written.
     ///
@@ -2386,7 +2422,7 @@ extern "C" {
     /// a string are missing. 0 is written.
     ///
     /// If `state` belongs to other bytes or was modified, the result may be wrong, but nothing outside
-    /// `bytes` is read.
+    /// `bytes` is read, and the length or the offset that is written is at most the number of bytes.
     ///
     /// # Errors
     ///
@@ -2439,6 +2475,56 @@ extern "C" {
         buffer: *mut u8,
         buffer_length: usize,
         out: *mut usize,
+    ) -> u32;
+
+    /// Finds the Redis reply at the start of `bytes`, as `exported_resp_reply_partial` does, and writes
+    /// all replies in it as nodes, in one pass and without allocating. `protocol` and `max_depth` are as
+    /// there.
+    ///
+    /// The first node is that of the reply. The node of an aggregate is followed by those of its
+    /// elements, in the order of the bytes, each with all nodes in it. Each node has the index after
+    /// everything in it, so that a loop can skip an aggregate in one step.
+    ///
+    /// `DONE`: the nodes are written, and their number and the length of the reply. Other entries of
+    /// `nodes` are unchanged.
+    ///
+    /// `INCOMPLETE`: `bytes` does not start with a reply yet: its last line has not ended, or bytes of a
+    /// string are missing. Zeros are written, and the contents of `nodes` are unspecified.
+    ///
+    /// Each call starts at the first byte; `exported_resp_extent` finds the end of a reply that arrives
+    /// in chunks. The time is linear in the bytes, at any depth.
+    ///
+    /// # Errors
+    ///
+    /// `BUFFER_TOO_SMALL`: the reply has more nodes than `nodes` has entries. The first are written, and
+    /// the number of all, with the length. So a call without entries returns the required number.
+    ///
+    /// After the next three, `bytes` does not start with a reply, regardless of what follows. The offset
+    /// of the first part that is rejected is written, as by `exported_resp_reply`: a line, or the bytes
+    /// of a string. The contents of `nodes` are unspecified.
+    ///
+    /// `INVALID`: that part is malformed.
+    ///
+    /// `OUT_OF_RANGE`: that line has an integer or a size that does not fit a signed 64-bit integer, or
+    /// an aggregate has too many parts.
+    ///
+    /// `TOO_DEEP`: that line is the one of an aggregate that is nested deeper than `max_depth`.
+    ///
+    /// `MAX_DEPTH_TOO_LARGE`: `max_depth` is above 512. Zeros are written, and `nodes` is unchanged.
+    ///
+    /// # Safety
+    ///
+    /// `bytes` must be valid for reads of `bytes_length` bytes, which must not change during the call.
+    /// `nodes` must be valid for writes of `nodes_length` entries, and `out` for writes of one entry.
+    /// None of these may overlap. The call needs 512 KiB of stack.
+    pub fn exported_resp_nodes(
+        bytes: *const u8,
+        bytes_length: usize,
+        protocol: u32,
+        max_depth: usize,
+        nodes: *mut RespNode,
+        nodes_length: usize,
+        out: *mut RespNodesSize,
     ) -> u32;
 
     /// Computes the line and the column of the position after the first `offset` bytes. Bytes after it

@@ -11,6 +11,15 @@
 //! assert_eq!(request, b"*2\r\n$4\r\nLLEN\r\n$6\r\nmylist\r\n");
 //! # Ok::<(), pergidau::Error>(())
 //! ```
+//!
+//! [`nodes`] writes all replies in a reply into a buffer, in one pass, for callers that visit most of
+//! them.
+mod nodes;
+
+pub use nodes::{nodes, Item, ItemElements, Node, Nodes};
+#[cfg(feature = "alloc")]
+pub use nodes::OwnedNodes;
+
 use crate::exports::{self, MAX_DEPTH};
 #[cfg(feature = "alloc")]
 use crate::bytes::append;
@@ -120,6 +129,36 @@ fn error(code: u32, offset: usize) -> Error {
     }
 }
 
+/// Returns the reply of this kind, if there is the kind.
+fn made<'i>(
+    kind: u32,
+    number: i64,
+    inside: &'i [u8],
+    elements: Elements<'i>,
+) -> Option<Reply<'i>> {
+    Some(match kind {
+        exports::RESP_SIMPLE => Reply::Simple(inside),
+        exports::RESP_ERROR => Reply::Error(inside),
+        exports::RESP_INTEGER => Reply::Integer(number),
+        exports::RESP_BULK => Reply::Bulk(inside),
+        exports::RESP_NULL_BULK => Reply::NullBulk,
+        exports::RESP_ARRAY => Reply::Array(elements),
+        exports::RESP_NULL_ARRAY => Reply::NullArray,
+        exports::RESP_NULL => Reply::Null,
+        exports::RESP_BOOLEAN => Reply::Boolean(number == 1),
+        exports::RESP_DOUBLE => Reply::Double(inside),
+        exports::RESP_BIG_NUMBER => Reply::BigNumber(inside),
+        exports::RESP_BULK_ERROR => Reply::BulkError(inside),
+        // (a format of three bytes, and a colon)
+        exports::RESP_VERBATIM => Reply::Verbatim(&inside[..3], &inside[4..]),
+        exports::RESP_MAP => Reply::Map(elements),
+        exports::RESP_SET => Reply::Set(elements),
+        exports::RESP_PUSH => Reply::Push(elements),
+        exports::RESP_ATTRIBUTES => Reply::Attributed(elements),
+        _ => return None,
+    })
+}
+
 fn read(
     export: Export,
     bytes: &[u8],
@@ -137,27 +176,7 @@ fn read(
     }
     let inside = at(bytes, out.span);
     let elements = Elements { left: inside, count: out.elements, protocol };
-    let reply = match out.kind {
-        exports::RESP_SIMPLE => Reply::Simple(inside),
-        exports::RESP_ERROR => Reply::Error(inside),
-        exports::RESP_INTEGER => Reply::Integer(out.number),
-        exports::RESP_BULK => Reply::Bulk(inside),
-        exports::RESP_NULL_BULK => Reply::NullBulk,
-        exports::RESP_ARRAY => Reply::Array(elements),
-        exports::RESP_NULL_ARRAY => Reply::NullArray,
-        exports::RESP_NULL => Reply::Null,
-        exports::RESP_BOOLEAN => Reply::Boolean(out.number == 1),
-        exports::RESP_DOUBLE => Reply::Double(inside),
-        exports::RESP_BIG_NUMBER => Reply::BigNumber(inside),
-        exports::RESP_BULK_ERROR => Reply::BulkError(inside),
-        // (a format of three bytes, and a colon)
-        exports::RESP_VERBATIM => Reply::Verbatim(&inside[..3], &inside[4..]),
-        exports::RESP_MAP => Reply::Map(elements),
-        exports::RESP_SET => Reply::Set(elements),
-        exports::RESP_PUSH => Reply::Push(elements),
-        exports::RESP_ATTRIBUTES => Reply::Attributed(elements),
-        _ => return Err(Error::Unknown(code)),
-    };
+    let reply = made(out.kind, out.number, inside, elements).ok_or(Error::Unknown(code))?;
     Ok((reply, &bytes[out.length..]))
 }
 

@@ -209,6 +209,14 @@ not_of r code a other = absurd (by (one_of r code a) other)
     ]
 
 module _ (protocol : Protocol) (level : ℕ) (input : List ℕ) where
+  pub rejects_by : (reason : Reason) (code : ℕ) (invalid : Invalid)
+      → IsCodeOf invalid.reason code → IsCodeOf reason code
+      → BoundedResult protocol level input (Err invalid)
+      → Rejects protocol level input reason invalid.offset
+  rejects_by reason code invalid is also found =
+      subst (λ r. Rejects protocol level input r invalid.offset)
+      (same_reason invalid.reason reason code is also) (rejects protocol level input invalid found)
+
   pub tells_done : (it : Reply) → level ≤ 512 → ShowsReply protocol level input it
       → TellsReply protocol level input 0 it
   tells_done it small shows = record {

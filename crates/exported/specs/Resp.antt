@@ -8,6 +8,7 @@ use Rattle.format_resp.specs.Parts.{IsBehindFeed}
 use Rattle.format_resp.specs.Resp.{Opened, Replies, ReplyText, line_end}
 use Rattle.format_resp.specs.declared.extent.Reason.{Reason}
 use Rattle.format_resp.specs.declared.extent.Reason.TheVariants.{Malformed, TooDeep, TooLarge}
+use Rattle.format_resp.specs.declared.nodes.NodesSize.{NodesSize}
 use Rattle.format_resp.specs.declared.reply.Protocol.{Protocol}
 use Rattle.format_resp.specs.declared.reply.Protocol.TheVariants.{Resp2, Resp3}
 use Rattle.format_resp.specs.declared.reply.Reply.{out-Reply}
@@ -18,6 +19,7 @@ use Rattle.exported.specs.Code.{done, incomplete, invalid, max_depth_too_large, 
 use Rattle.exported.specs.Code.{out_of_range, supported_depth, too_deep}
 use Rattle.exported.specs.Span.{StandsAt, nowhere}
 use Rattle.exported.specs.declared.resp.Reply.{Reply}
+use Rattle.exported.specs.declared.resp.nodes.RespNodesSize.{RespNodesSize}
 
 -- A reply whose bytes are slices.
 abbrev pub Found : Type 0
@@ -131,6 +133,14 @@ pub record ShowsReply (protocol : Protocol) (level : ℕ) (input : List ℕ) (it
   pub is_shown : IsShown protocol level input rest reply it
   pub ends : it.length + length rest ≡ length input
   pub no_error : it.error_offset ≡ 0
+
+-- no nodes, and the offset of an error
+abbrev pub no_nodes : ℕ → RespNodesSize
+no_nodes offset = record { count = 0; length = 0; error_offset = offset }
+
+-- the size of a reply as nodes
+abbrev pub size_of : RespNodesSize → NodesSize
+size_of it = record { count = it.count; length = it.length }
 
 -- the codes of reasons
 abbrev pub IsCodeOf : Reason → ℕ → Type 0

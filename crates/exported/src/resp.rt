@@ -1,6 +1,6 @@
 //! Replies of Redis.
 
-ghost use Rattle.std.specs.Prelude.{◌≡◌, ◌<◌, ◌⊎◌, ◌↔◌, length};
+ghost use Rattle.std.specs.Prelude.{◌≡◌, ◌≤◌, ◌<◌, ◌⊎◌, ◌↔◌, length};
 ghost use Rattle.format_resp.specs.Extents.{IsOf};
 ghost use Rattle.format_resp.specs.declared.extent.Reason.TheVariants as reasons;
 ghost use Rattle.exported.specs.Code.{done, incomplete, invalid, max_depth_too_large, no_memory};
@@ -11,6 +11,7 @@ ghost use Rattle.exported.specs.Resp.{no_reply, protocol_of};
 
 pub mod command;
 pub mod extent;
+pub mod nodes;
 pub mod places;
 
 use crate::code::{
@@ -22,62 +23,16 @@ use crate::resp::places::reply_at;
 use crate::span::{NOWHERE, Span};
 use format_resp::bounded::bounded_length;
 use format_resp::extent::Reason;
+pub use format_resp::node::{
+    RESP_ARRAY, RESP_ATTRIBUTES, RESP_BIG_NUMBER, RESP_BOOLEAN, RESP_BULK, RESP_BULK_ERROR,
+    RESP_DOUBLE, RESP_ERROR, RESP_INTEGER, RESP_MAP, RESP_NULL, RESP_NULL_ARRAY, RESP_NULL_BULK,
+    RESP_PUSH, RESP_SET, RESP_SIMPLE, RESP_VERBATIM,
+};
 use format_resp::read::read_reply;
 use format_resp::reply::Protocol;
 use std::alloc::Global;
 use winnow::error::ParserError;
 use winnow::stream::{Partial, StreamIsPartial};
-
-/// A simple string: bytes among which is neither a carriage return nor a line feed.
-pub const RESP_SIMPLE: u32 = 0;
-
-/// An error: such bytes.
-pub const RESP_ERROR: u32 = 1;
-
-/// An integer.
-pub const RESP_INTEGER: u32 = 2;
-
-/// A bulk string: any bytes.
-pub const RESP_BULK: u32 = 3;
-
-/// The null bulk string.
-pub const RESP_NULL_BULK: u32 = 4;
-
-/// An array.
-pub const RESP_ARRAY: u32 = 5;
-
-/// The null array.
-pub const RESP_NULL_ARRAY: u32 = 6;
-
-/// The null of RESP3.
-pub const RESP_NULL: u32 = 7;
-
-/// A boolean.
-pub const RESP_BOOLEAN: u32 = 8;
-
-/// A double, as its text.
-pub const RESP_DOUBLE: u32 = 9;
-
-/// A big number, as its text.
-pub const RESP_BIG_NUMBER: u32 = 10;
-
-/// A bulk error: any bytes.
-pub const RESP_BULK_ERROR: u32 = 11;
-
-/// A verbatim string: a format of three bytes, a colon, and any bytes.
-pub const RESP_VERBATIM: u32 = 12;
-
-/// A map: its keys, each followed by its value.
-pub const RESP_MAP: u32 = 13;
-
-/// A set.
-pub const RESP_SET: u32 = 14;
-
-/// A push.
-pub const RESP_PUSH: u32 = 15;
-
-/// Attributes: their names, each followed by its value, and the reply that they belong to.
-pub const RESP_ATTRIBUTES: u32 = 16;
 
 /// A reply.
 #[repr(C)]
@@ -131,7 +86,7 @@ pub(crate) const NONE: Reply = Reply {
 };
 
 /// Returns the version of the protocol: 3 stands for RESP3, another number for RESP2.
-fn version(protocol: u32) -> Protocol
+pub(crate) fn version(protocol: u32) -> Protocol
     ensures { result ≡ protocol_of protocol }
 {
     if protocol == 3 {
@@ -142,7 +97,7 @@ fn version(protocol: u32) -> Protocol
 }
 
 /// Returns the code of a reason.
-fn code_of(reason: Reason) -> u32
+pub(crate) fn code_of(reason: Reason) -> u32
     ensures { IsCodeOf reason result }
 {
     match reason {
@@ -192,8 +147,11 @@ fn read(alloc: Global, protocol: u32, bytes: &[u8], max_depth: usize, out: &mut 
 /// RESP2, the second, which has only the kinds up to `RESP_NULL_ARRAY`.
 ///
 /// To parse the elements of an aggregate, call the function with the bytes in its span, and then
-/// with those after each element. An integer may have a sign and leading zeros, a size leading
-/// zeros. `-1` is the size of a null. Streamed strings and aggregates are invalid.
+/// with those after each element. So a walk through all levels reads each byte once for each level
+/// that contains it; `exported_resp_nodes` writes all levels in one pass.
+///
+/// An integer may have a sign and leading zeros, a size leading zeros. `-1` is the size of a null.
+/// Streamed strings and aggregates are invalid.
 ///
 /// `DONE`: the reply is written.
 ///
@@ -327,7 +285,7 @@ pub extern "C" fn exported_resp_reply_partial(
 /// a string are missing. 0 is written.
 ///
 /// If `state` belongs to other bytes or was modified, the result may be wrong, but nothing outside
-/// `bytes` is read.
+/// `bytes` is read, and the length or the offset that is written is at most the number of bytes.
 ///
 /// # Errors
 ///
@@ -354,6 +312,7 @@ pub extern "C" fn exported_resp_extent(
     ensures told { IsOf (protocol_of protocol) (extent_of state.old) bytes.now
         → TellsEnd (protocol_of protocol) bytes.now result out.new state.new }
     ensures none { result ≡ incomplete → out.new ≡ 0 }
+    ensures within { out.new ≤ length bytes.now }
     ensures codes { (result ≡ done) ⊎ ((result ≡ incomplete) ⊎ ((result ≡ invalid)
         ⊎ (result ≡ out_of_range))) }
 {

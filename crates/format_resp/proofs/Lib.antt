@@ -11,7 +11,11 @@ pub mod LineEnds
 pub mod LineTexts
 pub mod Made
 pub mod MustAsk
+pub mod NodeRows
+pub mod NodesWritten
+pub mod NodeTexts
 pub mod NumberTexts
+pub mod Overlay
 pub mod PartsStand
 pub mod OnlyTexts
 pub mod Passing

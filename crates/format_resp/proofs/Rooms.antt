@@ -56,7 +56,7 @@ module _ {B : Type 0} where
       sym (length-append w.items xs) ∙ ap (λ l. length l) e ∙ length-append v.items ys in
       omega (arith, full, room, many, v.ok.0, w.ok.0)
 
-  -- no room for the bytes behind the first
+  -- no room for the bytes after the first
   pub lacks_behind : (v w : Vec ℕ B) (xs ys : List ℕ) → w.items ≡ v.items ++ xs
       → vec_capacity v ≤ vec_capacity w → LacksRoom w ys → LacksRoom v (xs ++ ys)
   lacks_behind v w xs ys e room full =
@@ -125,7 +125,7 @@ module _ {O B : Type 0} (text : Text ℕ O) (os : List O) (k : ℕ) (o : O) (bel
       (λ tokens (xs, ys, a, row, e).
       subst (λ l. LacksRoom v l) (sym e) (lacks_first v xs ys (full xs a)))
 
-  -- of the elements behind one that was appended
+  -- of the elements after one that was appended
   pub row_behind : IsOnly text → (v w : Vec ℕ B) → Adds text o v.items w.items
       → vec_capacity v ≤ vec_capacity w → LacksFor (EachText text) (drop (k + 1) os) w
       → LacksFor (EachText text) (drop k os) v

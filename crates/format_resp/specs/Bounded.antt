@@ -7,12 +7,12 @@ use Rattle.format_resp.specs.Extents.{IsNoString, IsPartOfData, IsRejectedPart, 
 use Rattle.format_resp.specs.Extents.{MatchesAtStart, Times, Wants}
 use Rattle.format_resp.specs.Heads.{HeadText}
 use Rattle.format_resp.specs.Resp.{StringText}
-use Rattle.format_resp.specs.declared.bounded.Stop.{Stop}
 use Rattle.format_resp.specs.declared.extent.Bulk.{Bulk}
 use Rattle.format_resp.specs.declared.extent.Invalid.{Invalid}
 use Rattle.format_resp.specs.declared.extent.Reason.{Reason}
 use Rattle.format_resp.specs.declared.extent.Reason.TheVariants.{Malformed, TooDeep}
 use Rattle.format_resp.specs.declared.heads.Head.TheVariants as heads
+use Rattle.format_resp.specs.declared.nodes.Stop.{Stop}
 use Rattle.format_resp.specs.declared.reply.Protocol.{Protocol}
 
 -- After `n` replies at the start of `tokens`, with aggregates nested at most `level` deep, `rest`

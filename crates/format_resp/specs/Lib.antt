@@ -5,7 +5,9 @@ pub mod Extents
 pub mod Heads
 pub mod Lines
 pub mod MustAsk
+pub mod Nodes
 pub mod Numbers
 pub mod Parts
 pub mod Resp
+pub mod Writing
 pub mod Written

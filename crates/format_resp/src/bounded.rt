@@ -1,87 +1,14 @@
 //! The end of a reply whose nesting depth is limited, and the reason why there is none.
-ghost use Rattle.format_resp.specs.Bounded.{BoundedResult, IsPassed, IsPassedEach, IsStringPassed};
+ghost use Rattle.format_resp.specs.Bounded.{BoundedResult};
 ghost use Rattle.format_resp.specs.Resp.{Replies, ReplyText};
 ghost use Rattle.format_resp.specs.declared.reply.Protocol.{Protocol};
 ghost use Rattle.std.specs.Prelude.{ℕ, List};
 ghost use Rattle.winnow_grammar.specs.InTurn.{First};
 
-use crate::extent::{Bulk, Invalid, Reason, skip_string};
-use crate::heads::{Head, Start, start_of};
+use crate::extent::Invalid;
+use crate::nodes::pass_nodes;
 use crate::reply::Protocol;
 use std::alloc::Allocator;
-
-/// Where and why a reply is rejected.
-#[derive(Clone, Copy)]
-pub(crate) struct Stop<'i> {
-    /// The reason.
-    reason: Reason,
-    /// The bytes from the rejected part on.
-    rest: &'i [u8],
-}
-
-/// Skips the data of a string that is a reply.
-#[inline(always)]
-fn pass_string<'i>(bulk: Bulk, bytes: &'i [u8]) -> Result<Option<&'i [u8]>, Stop<'i>>
-    ensures { IsStringPassed bulk bytes.now result }
-{
-    match skip_string(bulk, bytes) {
-        Err(reason) => Err(Stop {
-            reason,
-            rest: bytes,
-        }),
-        Ok(left) => Ok(left),
-    }
-}
-
-/// Skips this number of replies.
-#[cycle(pass)]
-fn pass_replies<'i>(
-    protocol: Protocol,
-    level: usize,
-    count: usize,
-    bytes: &'i [u8],
-) -> Result<Option<&'i [u8]>, Stop<'i>>
-    ensures { IsPassedEach protocol level count bytes.now result }
-{
-    let mut rest = bytes;
-    for _ in 0..count {
-        match pass_reply(protocol, level, rest) {
-            Err(stop) => return Err(stop),
-            Ok(None) => return Ok(None),
-            Ok(Some(left)) => rest = left,
-        }
-    }
-    Ok(Some(rest))
-}
-
-/// Skips a reply.
-#[cycle(pass)]
-fn pass_reply<'i>(
-    protocol: Protocol,
-    level: usize,
-    bytes: &'i [u8],
-) -> Result<Option<&'i [u8]>, Stop<'i>>
-    ensures { IsPassed protocol level bytes.now result }
-{
-    match start_of(protocol, bytes, 0) {
-        Start::Never(reason) => Err(Stop {
-            reason,
-            rest: bytes,
-        }),
-        Start::Open(_) => Ok(None),
-        Start::Whole(head, left) => match head {
-            Head::Ends => Ok(Some(left)),
-            Head::Data(bulk) => pass_string(bulk, left),
-            Head::Replies(count) => match level.checked_sub(1) {
-                None => Err(Stop {
-                    reason: Reason::TooDeep,
-                    rest: bytes,
-                }),
-                Some(inner) => pass_replies(protocol, inner, count, left),
-            },
-        },
-    }
-}
 
 /// Searches for the end of the reply at the start of `bytes`, whose aggregates are nested at most
 /// `level` deep, and returns the reply's length in bytes. Does not allocate.
@@ -121,14 +48,8 @@ pub fn bounded_length(
 ) -> Result<Option<usize>, Invalid>
     ensures { BoundedResult protocol level bytes.now result }
 {
-    match pass_reply(protocol, level, bytes) {
-        Err(stop) => Err(Invalid {
-            reason: stop.reason,
-            offset: bytes.len() - stop.rest.len(),
-        }),
-        Ok(None) => Ok(None),
-        Ok(Some(left)) => Ok(Some(bytes.len() - left.len())),
-    }
+    let mut count = 0;
+    pass_nodes(protocol, level, bytes, &mut count, &mut [])
 }
 
 /// Proves that the contract of [`bounded_length`] holds for the replies that

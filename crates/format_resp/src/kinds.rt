@@ -12,7 +12,7 @@ use crate::reply::{Reply, is_verbatim};
 use std::alloc::Allocator;
 
 /// The boolean that a line is.
-fn boolean_of(line: &[u8]) -> Option<bool>
+pub(crate) fn boolean_of(line: &[u8]) -> Option<bool>
     ensures some { IfSome result (λ b. BooleanText b line.now) }
     ensures none { result ≡ None → (b : Bool) → BooleanText b line.now → ⊥ }
 {

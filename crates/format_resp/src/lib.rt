@@ -20,12 +20,15 @@
 
 pub mod back;
 pub mod bounded;
+mod entries;
 pub mod extent;
 mod heads;
 mod kinds;
 pub mod leaves;
 mod lines;
 mod marks;
+pub mod node;
+pub mod nodes;
 pub mod numbers;
 pub mod parts;
 mod pieces;

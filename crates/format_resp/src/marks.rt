@@ -95,7 +95,7 @@ pub(crate) enum Mark {
 
 /// Returns the mark of a byte, if it starts a reply.
 #[inline(always)]
-fn any_mark(byte: u8) -> Option<Mark>
+pub(crate) fn any_mark(byte: u8) -> Option<Mark>
     ensures some { IfSome result (λ mark. byte ≡ byte_of mark) }
     ensures none { result ≡ None → (mark : Mark) → byte ≡ byte_of mark → ⊥ }
 {
