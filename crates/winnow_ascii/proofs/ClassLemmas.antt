@@ -26,5 +26,5 @@ least_ran {X} {T = T} tells least seen reading form i answer t j r taken set few
     subst (λ g. P set (from_to least g)) (sym (greatest_of-few least few))
     (subst (λ x. P x (from_to least (greatest_of least None))) same
     (subst (λ x. P taken (bounds_of x)) e
-    (take_while_from reading (r, taken) tt (λ x. AnswersSeen seen (tells x.1))
-    (λ x. bounds_of x.0) form i answer t j ran)))
+    (take_while_from reading (r, taken) tt (AnswersSeen seen (tells taken)) (bounds_of r) form i
+    answer t j ran)))

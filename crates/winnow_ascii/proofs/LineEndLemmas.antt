@@ -39,7 +39,7 @@ pub text_ran : {T S : Type 0} (reading : Reading T S) (spells : Bor (List ℕ) �
     → Ran {S = ⊤} reading (TextDoes reading spells bytes) form tt i answer tt j
 text_ran reading spells bytes form i answer j text is ran =
     let (ends, more, possible, did) =
-    literal_from reading text tt spells (λ _ slice. slice) form i answer text j ran in
+    literal_from reading text tt (spells text) (λ slice. slice) form i answer text j ran in
     (ends, more, possible, (text, is, did))
 
 -- "\n" does not backtrack, and its result is that of the whole
@@ -83,7 +83,8 @@ second_line_end {T} {S} reading spells form i answer j m k text is kind first se
         backs (tt, left_of m),
         subst P kind none.3,
         subst (Q (setting_of form i)) (subst B same refl) (subst (λ at. Q at (left_of m))
-            (at_setting (record { more = first.1; possible = first.2 })) second.3),
+            (at_setting {at = setting_of form i} {i = m}
+            (record { more = first.1; possible = first.2 })) second.3),
       ),
     )
 

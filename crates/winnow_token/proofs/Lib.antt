@@ -1,3 +1,4 @@
+pub mod BoundsLemmas
 pub mod MemberLemmas
 pub mod UnstableLemmas
 pub mod UntilLemmas

@@ -1,22 +1,29 @@
 -- Invariants of the loop that counts members, and the result for the count.
 use Rattle.std.proofs.Common.{◌≡◌, ◌≤◌, ◌<◌, ◌+◌, ◌∙◌, ℕ, Bool, true, false, not, List, [], ◌∷◌}
 use Rattle.std.proofs.Common.{◌++◌, length, Option, Some, None, refl, sym, ap, subst, arith, inl}
-use Rattle.std.proofs.Common.{inr, ◌⊎◌, append_assoc, length-append}
+use Rattle.std.proofs.Common.{inr, ◌⊎◌, Ok, Err, append_assoc, length-append}
 use Rattle.std.specs.Prelude.{unwrap_or}
 use Rattle.std.specs.List.{All}
 use Rattle.std.proofs.lemmas.List.{append-nil}
 use Rattle.std.proofs.lemmas.List.Elements.{All-append, All-cons, All-nil}
-use Rattle.std.proofs.lemmas.Bool.{leb-true, leb-false, ltb-true, ltb-false, eq-eqb, cases_lt}
-use Rattle.std.proofs.Math.Dec.{eqb, ltb, leb}
-use Rattle.streams.specs.Input.{Input}
+use Rattle.std.proofs.lemmas.Bool.{ltb-true, ltb-false, eq-eqb, cases_lt}
+use Rattle.std.proofs.Math.Dec.{eqb, ltb}
+use Rattle.streams.specs.Input.{Input, is_end_of_refl, takes_end}
+use Rattle.streams.specs.Kind.{Kind, backtrack}
 use Rattle.streams.specs.Reading.{Reading}
-use Rattle.streams.specs.Stream.{AnswersSeen, FindsFirst, with_offsets}
-use Rattle.streams.specs.Equal.{same_first, same_others, true_is_false}
-use Rattle.stream_errors.specs.Form.{ErrorForm, Answer}
-use Rattle.stream_sets.specs.Range.{IsBelow, IsWithin, from_to}
+use Rattle.streams.specs.Stream.{AnswersSeen, Cuts, FindsFirst, with_offsets}
+use Rattle.streams.specs.Equal.{same_first, same_others, same_rest, true_is_false}
+use Rattle.stream_errors.specs.Form.{ErrorForm}
+use Rattle.stream_sets.specs.Range.{Bounds, IsBelow, IsWithin}
 use Rattle.stream_sets.specs.Longest.{IsLongest}
-use Rattle.winnow_token.specs.TakeWhile.{IsEnded, TakeWhileRuns}
-use Rattle.winnow_token.specs.Members.{CountsMembers, FoundRuns}
+use Rattle.parser_definitions.specs.Does.{Ran}
+use Rattle.parser_definitions.specs.Left.{left_of}
+use Rattle.parser_definitions.specs.Members.{IsEnded}
+use Rattle.parser_definitions.specs.Outcome.{setting_of}
+use Rattle.parser_definitions.specs.TakeWhile.{IsPrefix, TakeWhileDoes}
+use Rattle.winnow_core.specs.Covers.{gave}
+use Rattle.winnow_core.specs.Covers.Leaves.{passed_of}
+use Rattle.winnow_token.specs.Members.{CountsMembers, FindsMembers}
 
 -- The tokens start with `count` members, followed by the tokens in `left`, each with its offset.
 pub record Counted {T : Type 0} (member : T → Bool → Type 0) (units : List T → ℕ)
@@ -188,65 +195,67 @@ below_within : (greatest : Option ℕ) (n : ℕ) → IsBelow greatest n → IsWi
 below_within None n h = tt
 below_within (Some most) n h = omega arith
 
--- the result for the members that were counted
-pub found_runs : {T S : Type 0} (reading : Reading T S) (form : ErrorForm)
-    (member : T → Bool → Type 0) (least : ℕ) (greatest : Option ℕ) (i : Input T)
-    (answer : Answer S) (j : Input T) (count : ℕ) (end : Option ℕ) (is_enough : Bool)
-    → IsWithin greatest least
-    → CountsMembers member greatest reading.units i.left.tokens count end
-    → (is_enough ≡ true → least ≤ count) → (is_enough ≡ false → count < least)
-    → FoundRuns reading form end is_enough least i answer j
-    → TakeWhileRuns reading form member (from_to least greatest) i answer j
-found_runs reading form member least greatest i answer j count None is_enough within
-    (still_open, counted) enough few (inl (cut, e, same)) =
-    inr (inl (within, still_open, cut, e, same))
-found_runs reading form member least greatest i answer j count None is_enough within
-    (still_open, counted) enough few (inr (inl (slice, whole, full, takes, e))) =
-    let le = enough full in
-    inr (inr (inl (
-      i.left.tokens,
-      [],
-      slice,
-      within,
-      longest_all member greatest i.left.tokens still_open.0
-          (below_within greatest (length i.left.tokens) still_open.1),
-      inr whole,
-      omega arith,
-      takes,
-      e,
-    )))
-found_runs reading form member least greatest i answer j count None is_enough within
-    (still_open, counted) enough few (inr (inr (whole, too_few, e, same))) =
-    let lt = few too_few in
-    inr (inr (inr (
-      i.left.tokens,
-      [],
-      within,
-      longest_all member greatest i.left.tokens still_open.0
-          (below_within greatest (length i.left.tokens) still_open.1),
-      inr whole,
-      omega arith,
-      e,
-      same,
-    )))
-found_runs reading form member least greatest i answer j count (Some offset) is_enough within
-    (front, rest, longest, ended, at, counted) enough few (inl (slice, full, cuts, e)) =
-    let le = enough full in
-    inr (inr (inl (
-      front,
-      rest,
-      slice,
-      within,
-      longest,
-      inl ended,
-      omega arith,
-      cuts front rest longest.splits at,
-      e,
-    )))
-found_runs reading form member least greatest i answer j count (Some offset) is_enough within
-    (front, rest, longest, ended, at, counted) enough few (inr (too_few, e, same)) =
-    let lt = few too_few in
-    inr (inr (inr (front, rest, within, longest, inl ended, omega arith, e, same)))
+-- two of the results for the members that were found; `search` finds the others
+module _ {X T S : Type 0} (reading : Reading T S) (form : ErrorForm) (member : T → Bool → Type 0)
+    (bounds : Bounds) (x : X) (i : Input T) (is_enough : Bool) (end : Option ℕ)
+    (within : IsWithin bounds.greatest bounds.least)
+    (found : FindsMembers member bounds reading.units i.left.tokens is_enough end) where
+  abbrev Finds : Option ℕ → Type 0
+  Finds end = FindsMembers member bounds reading.units i.left.tokens is_enough end
+
+  -- the prefix ends at an offset, and is long enough
+  pub ended_ran : (offset : ℕ) → end ≡ Some offset → is_enough ≡ true → (slice : S) (j : Input T)
+      → Cuts reading offset i slice j
+      → Ran reading (TakeWhileDoes reading (λ _. member) (λ _. bounds)) form x i (Ok slice) x j
+  ended_ran offset at_end is slice j cuts =
+      let (count, (front, rest, longest, ended, at, counted), enough, few) =
+      subst Finds at_end found in
+      let takes = cuts front rest longest.splits at in
+      let passed = takes_end takes in
+      let left = same_rest front rest j.left.tokens (sym longest.splits ∙ takes.passed.tokens) in
+      let P : List T → Type 0 =
+      λ l. IsPrefix member bounds.greatest (setting_of form i) i.left.tokens front l in
+      let le = enough is in (
+        passed,
+        passed.cut,
+        passed.ends.possible,
+        inr (
+          within,
+          inr (inl (
+            slice,
+            left_of j,
+            (
+              front,
+              subst P left (longest, inl ended),
+              omega (arith, le, counted),
+              takes.shown,
+              passed_of takes.passed,
+            ),
+            refl,
+          )),
+        ),
+      )
+
+  -- all tokens of complete input are members, and there are too few
+  pub all_few_ran : end ≡ None → i.status.cut ≡ false → is_enough ≡ false → (k : Kind)
+      → k ≡ backtrack
+      → Ran reading (TakeWhileDoes reading (λ _. member) (λ _. bounds)) form x i (Err k) x i
+  all_few_ran at_end complete is k backs =
+      let (count, ((members, below), counted), enough, few) = subst Finds at_end found in
+      let lt = few is in
+      let longest = longest_all member bounds.greatest i.left.tokens members
+      (below_within bounds.greatest (length i.left.tokens) below) in (
+        is_end_of_refl reading i,
+        refl,
+        refl,
+        inr (
+          within,
+          inr (inr (
+            (i.left.tokens, [], (longest, inr complete), omega (arith, lt, counted)),
+            gave {O = S} (x, left_of i) (ap Err backs),
+          )),
+        ),
+      )
 
 -- the members found by a search for the first token outside, which has no greatest number
 pub unbounded : {K T : Type 0} (seen : K → T) (tells : K → Bool → Type 0) (units : List T → ℕ)
@@ -300,12 +309,4 @@ enough_of_one least count n b le some e there back = (
         | inl h ↦ absurd (let h2 = there h in omega (arith, h2, n_zero))
         | inr h ↦ omega (arith, some)
       ]),
-)
-
--- the test of the least number
-pub enough_by_test : (least count : ℕ) (b : Bool) → b ≡ leb least count
-    → (b ≡ true → least ≤ count) × (b ≡ false → count < least)
-enough_by_test least count b e = (
-  (λ yes. leb-true least count (sym e ∙ yes)),
-  (λ too_few. leb-false least count (sym e ∙ too_few)),
 )

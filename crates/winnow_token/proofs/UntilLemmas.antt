@@ -1,12 +1,25 @@
--- Offsets of prefixes of the same tokens.
+-- Offsets of prefixes of the same tokens, and the result for a first match.
 use Rattle.std.proofs.Common.{◌≡◌, ◌≤◌, ◌<◌, ◌+◌, ◌-◌, ℕ, false, List, [], ◌∷◌, ◌++◌, length}
-use Rattle.std.proofs.Common.{take}
-use Rattle.std.proofs.Common.{drop, sym, ap, ◌∙◌, arith, inl, inr, length-append}
+use Rattle.std.proofs.Common.{take, drop, refl, sym, ap, ◌∙◌, ◌⊎◌, arith, inl, inr, length-append}
+use Rattle.std.proofs.Common.{None, Some, Ok, Err}
 use Rattle.std.proofs.lemmas.Bool.{cases_lt, false≢true, leb-true, le-leb}
 use Rattle.std.proofs.Math.Dec.{leb}
 use Rattle.std.proofs.lemmas.List.{take-append-drop, take-append-le, length-take-le}
 use Rattle.std.proofs.Math.Seq.{take-append-add}
+use Rattle.streams.specs.Input.{Input, Takes, is_end_of_refl, takes_end}
+use Rattle.streams.specs.Kind.{Kind, backtrack}
 use Rattle.streams.specs.Reading.{Reading, units-nil, units-zero}
+use Rattle.stream_errors.specs.Form.{Answer, ErrorForm}
+use Rattle.stream_searches.specs.FindSlice.{IsFirstMatch}
+use Rattle.stream_sets.specs.Range.{Bounds, IsWithin}
+use Rattle.grammars.specs.Grammar.Searches.{IsBefore}
+use Rattle.grammars.specs.Grammar.Searches.Unique.{match_before}
+use Rattle.parser_definitions.specs.Does.{Ran}
+use Rattle.parser_definitions.specs.Left.{left_of}
+use Rattle.parser_definitions.specs.TakeUntil.{TakeUntilDoes}
+use Rattle.winnow_core.specs.Covers.{gave}
+use Rattle.winnow_core.specs.Covers.Leaves.{passed_of, short}
+use Rattle.winnow_core.specs.Short.{ShortKind}
 use Rattle.winnow_token.specs.Before.{SaysAtLeast, SaysAtMost}
 
 -- some more tokens take some more units
@@ -131,3 +144,70 @@ pub some_before : {T S : Type 0} (reading : Reading T S) (front : List T) (start
     → start ≡ reading.units front → (start ≡ 0 → ⊥) → 0 < length front
 some_before reading [] start at other = absurd (other (at ∙ units-nil reading))
 some_before reading (x ∷ xs) start at other = omega arith
+
+-- ---- the results after a first match
+
+module _ {X T L : Type 0} (reading : Reading T L) (form : ErrorForm) (sought : List T → Type 0)
+    (bounds : Bounds) (x : X) (i : Input T) (start end : ℕ)
+    (within : IsWithin bounds.greatest bounds.least)
+    (m : IsFirstMatch reading.units sought i.left.tokens start end) where
+  abbrev Leads : Answer L → Input T → Type 0
+  Leads answer j = Ran reading
+      (TakeUntilDoes reading (λ _. sought) (λ _. bounds)) form x i answer x j
+
+  before : IsBefore sought i.left.tokens m.front (m.found ++ m.rest)
+  before = match_before reading m (m.found ++ m.rest) m.stands.splits
+
+  -- too few tokens precede it, and there is a greatest number
+  pub lacking_ran : length m.front < bounds.least → (most : ℕ) → bounds.greatest ≡ Some most
+      → (k : Kind) → ShortKind form None i k → Leads (Err k) i
+  lacking_ran few most is k kind = (
+    is_end_of_refl reading i,
+    refl,
+    refl,
+    inr (
+      within,
+      inl (
+        inr (m.front, m.found ++ m.rest, before, few, most, is),
+        short form None i k (x, left_of i) kind,
+      ),
+    ),
+  )
+
+  -- too few precede it, and there is none, or too many do
+  pub outside_ran : ((length m.front < bounds.least) × (bounds.greatest ≡ None))
+      ⊎ ((most : ℕ) × (bounds.greatest ≡ Some most) × (bounds.least ≤ most)
+      × (most < length m.front))
+      → (k : Kind) → k ≡ backtrack → Leads (Err k) i
+  outside_ran why k is = (
+    is_end_of_refl reading i,
+    refl,
+    refl,
+    inr (
+      within,
+      inr (inr (
+        (m.front, m.found ++ m.rest, before, why),
+        gave {O = L} (x, left_of i) (ap Err is),
+      )),
+    ),
+  )
+
+  -- their number is within the bounds
+  pub before_ran : bounds.least ≤ length m.front → IsWithin bounds.greatest (length m.front)
+      → (slice : L) (j : Input T) → Takes reading m.front i slice j → Leads (Ok slice) j
+  before_ran enough fits slice j takes =
+      let passed = takes_end takes in
+      let first = match_before reading m j.left.tokens takes.passed.tokens in (
+        passed,
+        passed.cut,
+        passed.ends.possible,
+        inr (
+          within,
+          inr (inl (
+            slice,
+            left_of j,
+            (m.front, first, enough, fits, takes.shown, passed_of takes.passed),
+            refl,
+          )),
+        ),
+      )

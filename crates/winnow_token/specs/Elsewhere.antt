@@ -54,9 +54,9 @@ ran_also {S} {Q} {T} {O = O} reading does also s q says form i a t j
     )
 
 module _ {S Q T L : Type 0} (reading : Reading T L) (s : S) (q : Q) where
-  take_while_also : (member : S → T → Bool → Type 0) (bounds : S → Bounds)
-      → SaysAlso (TakeWhileDoes reading member bounds)
-      (TakeWhileDoes reading (λ _. member s) (λ _. bounds s)) s q
+  take_while_also : (member : T → Bool → Type 0) (bounds : Bounds)
+      → SaysAlso (TakeWhileDoes reading (λ _. member) (λ _. bounds))
+      (TakeWhileDoes reading (λ _. member) (λ _. bounds)) s q
   take_while_also member bounds at w x (inl (a, e)) =
       inl (a, ap (λ y. in_state (λ _. q) y) e ∙ misused_from q at.form (s, w))
   take_while_also member bounds at w x (inr (within, inl (a, e))) = inr (
@@ -68,27 +68,27 @@ module _ {S Q T L : Type 0} (reading : Reading T L) (s : S) (q : Q) where
   take_while_also member bounds at w x (inr (within, inr (inr (a, e)))) =
       inr (within, inr (inr (a, ap (λ y. in_state (λ _. q) y) e)))
 
-  pub take_while_from : (member : S → T → Bool → Type 0) (bounds : S → Bounds)
+  pub take_while_from : (member : T → Bool → Type 0) (bounds : Bounds)
       (form : ErrorForm) (i : Input T) (a : Answer L) (t : S) (j : Input T)
-      → Ran reading (TakeWhileDoes reading member bounds) form s i a t j
-      → Ran reading (TakeWhileDoes reading (λ _. member s) (λ _. bounds s)) form q i a q j
-  take_while_from member bounds = ran_also reading (TakeWhileDoes reading member bounds)
-      (TakeWhileDoes reading (λ _. member s) (λ _. bounds s)) s q
-      (take_while_also member bounds)
+      → Ran reading (TakeWhileDoes reading (λ _. member) (λ _. bounds)) form s i a t j
+      → Ran reading (TakeWhileDoes reading (λ _. member) (λ _. bounds)) form q i a q j
+  take_while_from member bounds = ran_also reading
+      (TakeWhileDoes reading (λ _. member) (λ _. bounds))
+      (TakeWhileDoes reading (λ _. member) (λ _. bounds)) s q (take_while_also member bounds)
 
-  literal_also : {O : Type 0} (spells : S → List T → Type 0) (output : S → L → O)
-      → SaysAlso (LiteralDoes reading spells output)
-      (LiteralDoes reading (λ _. spells s) (λ _. output s)) s q
-  literal_also spells output at w x (inl (o, rest, a, e)) =
+  literal_also : {O : Type 0} (spelled : List T → Type 0) (output : L → O)
+      → SaysAlso (LiteralDoes reading (λ _. spelled) (λ _. output))
+      (LiteralDoes reading (λ _. spelled) (λ _. output)) s q
+  literal_also spelled output at w x (inl (o, rest, a, e)) =
       inl (o, rest, a, ap (λ y. in_state (λ _. q) y) e)
-  literal_also spells output at w x (inr (inl (a, e))) = inr (inl
+  literal_also spelled output at w x (inr (inl (a, e))) = inr (inl
       (a, ap (λ y. in_state (λ _. q) y) e ∙ lacks_from q at.form at.more _ (s, w)))
-  literal_also spells output at w x (inr (inr (a, e))) =
+  literal_also spelled output at w x (inr (inr (a, e))) =
       inr (inr (a, ap (λ y. in_state (λ _. q) y) e))
 
-  pub literal_from : {O : Type 0} (spells : S → List T → Type 0) (output : S → L → O)
+  pub literal_from : {O : Type 0} (spelled : List T → Type 0) (output : L → O)
       (form : ErrorForm) (i : Input T) (a : Answer O) (t : S) (j : Input T)
-      → Ran reading (LiteralDoes reading spells output) form s i a t j
-      → Ran reading (LiteralDoes reading (λ _. spells s) (λ _. output s)) form q i a q j
-  literal_from spells output = ran_also reading (LiteralDoes reading spells output)
-      (LiteralDoes reading (λ _. spells s) (λ _. output s)) s q (literal_also spells output)
+      → Ran reading (LiteralDoes reading (λ _. spelled) (λ _. output)) form s i a t j
+      → Ran reading (LiteralDoes reading (λ _. spelled) (λ _. output)) form q i a q j
+  literal_from spelled output = ran_also reading (LiteralDoes reading (λ _. spelled) (λ _. output))
+      (LiteralDoes reading (λ _. spelled) (λ _. output)) s q (literal_also spelled output)

@@ -1,13 +1,9 @@
 -- Counted members, before the result is determined.
-use Rattle.std.specs.Prelude.{◌≡◌, ℕ, Bool, true, false, List, length, Option, Some, Ok, Err, ◌⊎◌}
+use Rattle.std.specs.Prelude.{◌≡◌, ◌<◌, ◌≤◌, ℕ, Bool, true, false, List, length, Option}
 use Rattle.std.specs.Prelude.{MatchOption}
-use Rattle.streams.specs.Input.{Input, Takes}
-use Rattle.streams.specs.Kind.{backtrack}
-use Rattle.streams.specs.Reading.{Reading}
-use Rattle.streams.specs.Stream.{Cuts}
-use Rattle.stream_errors.specs.Form.{ErrorForm, Answer, incomplete_kind}
+use Rattle.parser_definitions.specs.Members.{IsEnded, IsOpen}
 use Rattle.stream_sets.specs.Longest.{IsLongest}
-use Rattle.winnow_token.specs.TakeWhile.{IsEnded, IsOpen, missing_of}
+use Rattle.stream_sets.specs.Range.{Bounds}
 
 -- The tokens start with `count` members, which end at the offset; or all tokens are members, and
 -- more are allowed.
@@ -19,16 +15,10 @@ CountsMembers {T} member greatest units tokens count end = MatchOption end
     × IsEnded member greatest front rest × (offset ≡ units front)
     × (count ≡ length front))
 
--- The result, given the end of the members and whether there are enough.
-abbrev pub FoundRuns : {T S : Type 0} → Reading T S → ErrorForm → Option ℕ → Bool → ℕ → Input T
-    → Answer S → Input T → Type 0
-FoundRuns {T} {S} reading form end is_enough least i answer j = MatchOption end
-    (((i.status.cut ≡ true)
-    × (answer ≡ Err (incomplete_kind form
-    (Some (missing_of least (reading.units i.left.tokens))))) × (j ≡ i))
-    ⊎ (((slice : S) × (i.status.cut ≡ false) × (is_enough ≡ true)
-    × Takes reading i.left.tokens i slice j × (answer ≡ Ok slice))
-    ⊎ ((i.status.cut ≡ false) × (is_enough ≡ false) × (answer ≡ Err backtrack) × (j ≡ i))))
-    (λ offset.
-    ((slice : S) × (is_enough ≡ true) × Cuts reading offset i slice j × (answer ≡ Ok slice))
-    ⊎ ((is_enough ≡ false) × (answer ≡ Err backtrack) × (j ≡ i)))
+-- The tokens start with a number of members, and `is_enough` says whether that is at least the
+-- least number.
+abbrev pub FindsMembers : {T : Type 0} → (T → Bool → Type 0) → Bounds → (List T → ℕ) → List T
+    → Bool → Option ℕ → Type 0
+FindsMembers member bounds units tokens is_enough end =
+    (count : ℕ) × CountsMembers member bounds.greatest units tokens count end
+    × (is_enough ≡ true → bounds.least ≤ count) × (is_enough ≡ false → count < bounds.least)

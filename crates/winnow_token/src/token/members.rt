@@ -1,11 +1,12 @@
 //! Takes of the members of a set.
-ghost use Rattle.std.specs.Prelude.{◌≤◌, IfSome, None, Some, not};
+ghost use Rattle.std.specs.Prelude.{Some, not};
+ghost use Rattle.parser_definitions.specs.Does.{Ran};
+ghost use Rattle.parser_definitions.specs.TakeWhile.{TakeWhileDoes};
 ghost use Rattle.stream_errors.specs.Form.{answer_by};
-ghost use Rattle.stream_sets.specs.Range.{bounds_of, from_to};
-ghost use Rattle.streams.specs.Input.{IsEndOf};
-ghost use Rattle.streams.specs.Stream.{AnswersSeen, IsBoundary};
-ghost use Rattle.winnow_token.specs.Members.{CountsMembers, FoundRuns};
-ghost use Rattle.winnow_token.specs.TakeWhile.{TakeWhileRuns};
+ghost use Rattle.stream_sets.specs.Range.{bounds_of};
+ghost use Rattle.stream_sets.specs.declared.range.Range.{Range};
+ghost use Rattle.streams.specs.Stream.{AnswersSeen};
+ghost use Rattle.winnow_token.specs.Members.{CountsMembers, FindsMembers};
 
 use stream_errors::parser_error::ParserError;
 use stream_sets::range::Range;
@@ -62,6 +63,14 @@ struct Members {
     end: Option<usize>,
 }
 
+/// Whether there are enough members at the start of the input, and the offset after them if more
+/// input cannot extend them.
+#[derive(Clone, Copy)]
+struct Found {
+    is_enough: bool,
+    end: Option<usize>,
+}
+
 /// Takes the longest prefix of members of `set`.
 #[inline(always)]
 pub(crate) fn take_members<S: ContainsToken<I::Token>, I: StreamIsPartial, E: ParserError<I>>(
@@ -70,79 +79,62 @@ pub(crate) fn take_members<S: ContainsToken<I::Token>, I: StreamIsPartial, E: Pa
     set: &S,
 ) -> Result<I::Slice, E>
     requires { S.can_test set.now }
-    ensures ran { TakeWhileRuns I.reading E.form (AnswersSeen I.seen_as (S.tells set.now))
-        (bounds_of occurrences) (I.view input.old)
-        (answer_by E.kind result) (I.view input.new) }
-    ensures ends { IsEndOf I.reading (I.view input.new) (I.view input.old) }
+    ensures ran { Ran {S = Range × S} I.reading (TakeWhileDoes I.reading
+        (λ x. AnswersSeen I.seen_as (S.tells x.1)) (λ x. bounds_of x.0)) E.form
+        (occurrences, set.now) (I.view input.old) (answer_by E.kind result) (occurrences, set.now)
+        (I.view input.new) }
+{
+    let least = occurrences.start_inclusive;
+    if occurrences.greatest().unwrap_or(least) < least {
+        return Err(E::assert(input, "the greatest count is below the least"));
+    }
+    let found = find_members(input, occurrences, set);
+    match found.end {
+        Some(offset) => {
+            if found.is_enough {
+                Ok(input.next_slice(offset))
+            } else {
+                Err(E::from_input(input))
+            }
+        }
+        None => {
+            if input.is_partial() {
+                let missing = least.saturating_sub(input.eof_offset()).max(1);
+                Err(E::incomplete(input, Needed::new(missing)))
+            } else if found.is_enough {
+                Ok(input.finish())
+            } else {
+                Err(E::from_input(input))
+            }
+        }
+    }
+}
+
+/// Finds the longest prefix of members.
+#[inline(always)]
+fn find_members<S: ContainsToken<I::Token>, I: Stream>(
+    input: &I,
+    occurrences: Range,
+    set: &S,
+) -> Found
+    requires { S.can_test set.now }
+    ensures { FindsMembers (AnswersSeen I.seen_as (S.tells set.now)) (bounds_of occurrences)
+        I.reading.units (I.view input.now).left.tokens result.is_enough result.end }
 {
     let least = occurrences.start_inclusive;
     match occurrences.greatest() {
-        None => take_unbounded(input, least, set),
-        Some(greatest) => take_bounded(input, least, greatest, set),
-    }
-}
-
-/// Takes the longest prefix of members, of at least `least` (0 or 1) tokens.
-#[inline(always)]
-fn take_unbounded<S: ContainsToken<I::Token>, I: StreamIsPartial, E: ParserError<I>>(
-    input: &mut I,
-    least: usize,
-    set: &S,
-) -> Result<I::Slice, E>
-    requires set { S.can_test set.now }
-    requires form { least ≤ 1 }
-    ensures ran { TakeWhileRuns I.reading E.form (AnswersSeen I.seen_as (S.tells set.now))
-        (from_to least None) (I.view input.old) (answer_by E.kind result) (I.view input.new) }
-    ensures ends { IsEndOf I.reading (I.view input.new) (I.view input.old) }
-{
-    let end = input.offset_for(Outside(set));
-    let is_enough = least == 0 || end.unwrap_or(input.eof_offset()) > 0;
-    take_found(input, end, is_enough, least)
-}
-
-/// Takes the longest prefix of at most `greatest` members.
-#[inline(always)]
-fn take_bounded<S: ContainsToken<I::Token>, I: StreamIsPartial, E: ParserError<I>>(
-    input: &mut I,
-    least: usize,
-    greatest: usize,
-    set: &S,
-) -> Result<I::Slice, E>
-    requires { S.can_test set.now }
-    ensures ran { TakeWhileRuns I.reading E.form (AnswersSeen I.seen_as (S.tells set.now))
-        (from_to least (Some greatest)) (I.view input.old) (answer_by E.kind result)
-        (I.view input.new) }
-    ensures ends { IsEndOf I.reading (I.view input.new) (I.view input.old) }
-{
-    if greatest < least {
-        return Err(E::assert(input, "the greatest count is below the least"));
-    }
-    let members = count_members(input, greatest, set);
-    take_found(input, members.end, least <= members.count, least)
-}
-
-/// Takes the input up to `end`; if that is unknown, all of complete input.
-#[inline(always)]
-fn take_found<I: StreamIsPartial, E: ParserError<I>>(
-    input: &mut I,
-    end: Option<usize>,
-    is_enough: bool,
-    least: usize,
-) -> Result<I::Slice, E>
-    requires { IfSome end
-        (λ offset. IsBoundary I.reading.units (I.view input.old).left.tokens offset) }
-    ensures ran { FoundRuns I.reading E.form end is_enough least (I.view input.old)
-        (answer_by E.kind result) (I.view input.new) }
-    ensures ends { IsEndOf I.reading (I.view input.new) (I.view input.old) }
-{
-    match end {
-        Some(offset) if is_enough => Ok(input.next_slice(offset)),
-        None if input.is_partial() => {
-            let missing = least.saturating_sub(input.eof_offset()).max(1);
-            Err(E::incomplete(input, Needed::new(missing)))
+        None => {
+            let end = input.offset_for(Outside(set));
+            let is_enough = least == 0 || end.unwrap_or(input.eof_offset()) > 0;
+            Found { is_enough, end }
         }
-        None if is_enough => Ok(input.finish()),
-        _ => Err(E::from_input(input)),
+        Some(greatest) => {
+            let members = count_members(input, greatest, set);
+            Found {
+                is_enough: least <= members.count,
+                end: members.end,
+            }
+        }
     }
 }
 

@@ -18,13 +18,13 @@ returns-else-is_backtrack g c =
           (Err (g.Error.HasKind.kind c.in-Err.error)) _
           (λ e. other (cc e))
           (text_ran g.Input.Stream.reading g.Input.Compare.spells (10 ∷ []) g.Error.HasKind.form _
-          _ _ _ refl c.in-Err.ensures.ran);
+          (Err (g.Error.HasKind.kind c.in-Err.error)) _ _ refl c.in-Err.ensures.ran);
     }
 
 pub returns-in-Ok : goal.returns-in-Ok
 returns-in-Ok g c = record {
   ran = first_line_end g.Input.Stream.reading g.Input.Compare.spells g.Error.HasKind.form _
       (Ok c.in-Ok.slice) _ (λ e. absurd (cc e))
-      (text_ran g.Input.Stream.reading g.Input.Compare.spells (10 ∷ []) g.Error.HasKind.form _ _ _
-      _ refl c.in-Ok.ensures.ran);
+      (text_ran g.Input.Stream.reading g.Input.Compare.spells (10 ∷ []) g.Error.HasKind.form _
+      (Ok c.in-Ok.slice) _ _ refl c.in-Ok.ensures.ran);
 }
