@@ -185,7 +185,7 @@ fn write(
     let mut out = exports::RespNodesSize::default();
     let (room, entries, version) = (nodes.as_mut_ptr(), nodes.len(), protocol.number());
     // SAFETY: the pointers are those of live borrows, and the bytes are only read. The call takes up to
-    // 107 KiB of stack at `MAX_DEPTH` (measured); where there is less, the thread's guard page ends the
+    // 89 KiB of stack at `MAX_DEPTH` (measured); where there is less, the thread's guard page ends the
     // program.
     let code = unsafe {
         exports::exported_resp_nodes(

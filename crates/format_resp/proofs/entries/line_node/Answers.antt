@@ -10,7 +10,8 @@ returns-in-Some c reply says =
 
 pub returns-in_default : goal.returns-in_default
 returns-in_default c reply says =
-    text_line c.args.line.now c.args.start c.args.index c.of_bytes.result c.args.mark reply c.in_default.not-Colon c.in_default.not-Underscore
-    c.in_default.not-Hash says (c.of_bytes.ensures
+    text_line c.args.line.now c.args.start c.args.index c.of_bytes.result c.args.mark reply
+    c.in_default.not-Colon c.in_default.not-Underscore c.in_default.not-Hash says
+    (c.of_bytes.ensures
     ∙ ap (λ k. bytes_node k 0 c.args.start (c.args.start + length c.args.line.now)
     (c.args.index + 1)) c.kind_of.ensures)

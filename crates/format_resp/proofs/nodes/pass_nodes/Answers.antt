@@ -28,7 +28,8 @@ returns-in-Err-clause-told c =
 
 pub returns-in-Ok-None-clause-told : goal.returns-in-Ok-None-clause-told
 returns-in-Ok-None-clause-told c =
-    let (due, below, rest, leads, wants) = rw c.in-Ok-None.field-0-is at c.in-Ok-None.ensures.told in (
+    let (due, below, rest, leads, wants) =
+    rw c.in-Ok-None.field-0-is at c.in-Ok-None.ensures.told in (
       none_within c.args.protocol c.args.level c.args.bytes.now due below rest leads wants,
       (due, below, rest, leads, wants),
     )
