@@ -177,7 +177,8 @@ module _ (protocol : Protocol) where
           text = text;
           is_reply = texts;
           splits = whole_line (byte_of (Aggregate mark)) at.line rest (subst Q is at.splits);
-          is_node = null_node (size - length bytes) index (Aggregate Star) reply text node shape_is e;
+          is_node = null_node (size - length bytes) index (Aggregate Star) reply text node
+              shape_is e;
         }
 
     pub ended_line : (mark : LineMark) (start : ℕ) → start + length bytes ≡ size + 1

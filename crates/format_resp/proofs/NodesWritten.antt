@@ -1,5 +1,6 @@
 -- Lemmas about the nodes of strings and aggregates, and about nodes in the buffer.
-use Rattle.std.specs.Prelude.{◌≡◌, ◌≤◌, ◌<◌, ◌+◌, ◌-◌, ◌^◌, ◌∷◌, ◌++◌, [], ⊤, ℕ, List, length}
+use Rattle.std.specs.Prelude.{◌≡◌, ◌≤◌, ◌<◌, ◌+◌, ◌-◌, ◌^◌, ◌∷◌, ◌++◌, [], ⊤, ℕ, List}
+use Rattle.std.specs.Prelude.{length}
 use Rattle.std.specs.Prelude.{None, Option, Some, drop, set, suc, take, zero}
 use Rattle.std.specs.Borrow.{Bor}
 use Rattle.std.proofs.Common.{◌∙◌, ap, append_assoc, arith, length-append, refl, subst, sym}
@@ -33,7 +34,8 @@ use Rattle.format_resp.specs.declared.reply.Protocol.{Protocol}
 
 -- the kind of the reply that such bytes start with
 abbrev pub IsKind : ℕ → List ℕ → Type 0
-IsKind kind bytes = (mark : Mark) (text : List ℕ) → bytes ≡ byte_of mark ∷ text → kind ≡ kind_by mark
+IsKind kind bytes = (mark : Mark) (text : List ℕ) → bytes ≡ byte_of mark ∷ text
+    → kind ≡ kind_by mark
 
 same_node : {kind k elements e end f next g : ℕ} (start : ℕ) → kind ≡ k → elements ≡ e → end ≡ f
     → next ≡ g → bytes_node kind elements start end next ≡ bytes_node k e start f g
@@ -327,7 +329,8 @@ module _ (protocol : Protocol) where
       let says = subst Q by.is at.says in
       let splits = subst P by.is at.splits in
       let text = byte_of (Aggregate mark) ∷ ((at.line ++ line_end) ++ row.text) in
-      let joins = after_line (byte_of (Aggregate mark)) at.line row.text left rest splits row.splits in
+      let joins = after_line (byte_of (Aggregate mark)) at.line row.text left rest splits
+      row.splits in
       let from = size - length bytes in
       let whole = ap (λ l. length l) joins in
       let parts = length-append text rest in

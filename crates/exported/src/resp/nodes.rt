@@ -37,8 +37,8 @@ fn none_at(error_offset: usize) -> RespNodesSize
 }
 
 /// Finds the Redis reply at the start of `bytes`, as `exported_resp_reply_partial` does, and writes
-/// all replies in it as nodes, in one pass and without allocating. `protocol` and `max_depth` are as
-/// there.
+/// all replies in it as nodes, in one pass and without allocating. `protocol` and `max_depth` are
+/// as there.
 ///
 /// The first node is that of the reply. The node of an aggregate is followed by those of its
 /// elements, in the order of the bytes, each with all nodes in it. Each node has the index after
@@ -47,20 +47,20 @@ fn none_at(error_offset: usize) -> RespNodesSize
 /// `DONE`: the nodes are written, and their number and the length of the reply. Other entries of
 /// `nodes` are unchanged.
 ///
-/// `INCOMPLETE`: `bytes` does not start with a reply yet: its last line has not ended, or bytes of a
-/// string are missing. Zeros are written, and the contents of `nodes` are unspecified.
+/// `INCOMPLETE`: `bytes` does not start with a reply yet: its last line has not ended, or bytes of
+/// a string are missing. Zeros are written, and the contents of `nodes` are unspecified.
 ///
 /// Each call starts at the first byte; `exported_resp_extent` finds the end of a reply that arrives
 /// in chunks. The time is linear in the bytes, at any depth.
 ///
 /// # Errors
 ///
-/// `BUFFER_TOO_SMALL`: the reply has more nodes than `nodes` has entries. The first are written, and
-/// the number of all, with the length. So a call without entries returns the required number.
+/// `BUFFER_TOO_SMALL`: the reply has more nodes than `nodes` has entries. The first are written,
+/// and the number of all, with the length. So a call without entries returns the required number.
 ///
-/// After the next three, `bytes` does not start with a reply, regardless of what follows. The offset
-/// of the first part that is rejected is written, as by `exported_resp_reply`: a line, or the bytes
-/// of a string. The contents of `nodes` are unspecified.
+/// After the next three, `bytes` does not start with a reply, regardless of what follows. The
+/// offset of the first part that is rejected is written, as by `exported_resp_reply`: a line, or
+/// the bytes of a string. The contents of `nodes` are unspecified.
 ///
 /// `INVALID`: that part is malformed.
 ///

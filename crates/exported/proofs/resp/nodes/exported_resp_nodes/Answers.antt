@@ -16,7 +16,8 @@ returns-in-Err-clause-refused c e =
     let P : Protocol → Type 0 =
     λ p. Rejects p c.args.max_depth c.args.bytes.now Malformed c.in-Err.refused.offset in
     rw c.none_at-in-Err.ensures (subst P c.version.ensures (rejects_by c.version.result
-    c.args.max_depth c.args.bytes.now Malformed c.code_of.result c.in-Err.refused c.code_of.ensures e
+    c.args.max_depth c.args.bytes.now Malformed c.code_of.result c.in-Err.refused
+    c.code_of.ensures e
     c.in-Err.ensures.told))
 
 pub returns-in-Err-clause-large : goal.returns-in-Err-clause-large
