@@ -45,14 +45,16 @@ pub fn replies_by_nodes(text: &Text) -> Outcome {
     let (mut out, mut rest) = (Outcome::default(), text.bytes());
     let mut room = vec![Node::default(); 16];
     loop {
-        match resp::nodes(rest, Protocol::Resp2, LEVELS, &mut room) {
+        let entries = match resp::nodes(rest, Protocol::Resp2, LEVELS, &mut room) {
             Ok((nodes, behind)) => {
                 count_item(nodes.root(), &mut out);
                 rest = behind;
+                continue;
             }
-            Err(Error::BufferTooSmall(required)) => room.resize(required.entries, Node::default()),
+            Err(Error::BufferTooSmall(required)) => required.entries,
             Err(_) => return out,
-        }
+        };
+        room.resize(entries, Node::default());
     }
 }
 

@@ -165,12 +165,12 @@ impl ExactSizeIterator for ItemElements<'_> {}
 /// assert_eq!((nodes.nodes().len(), rest.len()), (5, 0));
 /// # Ok::<(), pergidau::Error>(())
 /// ```
-pub fn nodes<'b>(
-    bytes: &'b [u8],
+pub fn nodes<'i: 'b, 'b>(
+    bytes: &'i [u8],
     protocol: Protocol,
     max_depth: usize,
     nodes: &'b mut [Node],
-) -> Result<(Nodes<'b>, &'b [u8]), Error> {
+) -> Result<(Nodes<'b>, &'i [u8]), Error> {
     let (count, length) = write(bytes, protocol, max_depth, nodes)?;
     Ok((Nodes { bytes, nodes: &nodes[..count], protocol }, &bytes[length..]))
 }
