@@ -157,6 +157,14 @@ uint32_t exported_json_diagnose(
     size_t text_length,
     size_t max_depth,
     struct pergidau_json_diagnostic *out);
+uint32_t exported_json_extent(
+    struct pergidau_json_value_state *state,
+    const uint8_t *bytes,
+    size_t bytes_length,
+    uint32_t is_complete,
+    uint8_t *brackets,
+    size_t brackets_length,
+    size_t *out);
 uint32_t exported_json_integer(
     const uint8_t *bytes,
     size_t bytes_length,
@@ -1353,6 +1361,44 @@ enum pergidau_code pergidau_json_diagnose(
         text = &no_text;
     }
     return (enum pergidau_code)exported_json_diagnose(text, text_length, max_depth, out);
+}
+
+enum pergidau_code pergidau_json_extent(
+    struct pergidau_json_value_state *state,
+    const uint8_t *bytes,
+    size_t bytes_length,
+    uint32_t is_complete,
+    uint8_t *brackets,
+    size_t brackets_length,
+    size_t *out)
+{
+    const uint8_t no_bytes = {0};
+    uint8_t no_brackets = {0};
+    if (state == NULL) {
+        return PERGIDAU_NULL;
+    }
+    if (bytes_length > PTRDIFF_MAX / sizeof(uint8_t)) {
+        return PERGIDAU_TOO_LONG;
+    }
+    if (bytes == NULL && bytes_length > 0) {
+        return PERGIDAU_NULL;
+    }
+    if (brackets_length > PTRDIFF_MAX / sizeof(uint8_t)) {
+        return PERGIDAU_TOO_LONG;
+    }
+    if (brackets == NULL && brackets_length > 0) {
+        return PERGIDAU_NULL;
+    }
+    if (out == NULL) {
+        return PERGIDAU_NULL;
+    }
+    if (bytes == NULL) {
+        bytes = &no_bytes;
+    }
+    if (brackets == NULL) {
+        brackets = &no_brackets;
+    }
+    return (enum pergidau_code)exported_json_extent(state, bytes, bytes_length, is_complete, brackets, brackets_length, out);
 }
 
 enum pergidau_code pergidau_json_integer(

@@ -953,6 +953,22 @@ struct pergidau_json_diagnostic {
 };
 
 /*
+ * The state of a search for the end of a JSON value in input that arrives in chunks. Only the
+ * functions of this library may interpret its fields. All zeros is the initial state, and also
+ * the state after a value or an error.
+ */
+struct pergidau_json_value_state {
+    /* How many bytes were passed. */
+    size_t passed;
+    /* How many brackets are open. */
+    size_t depth;
+    /* The kind of the input that is expected next; 0 before a value. */
+    size_t mode;
+    /* The part of a string, a number or a word that is expected next. */
+    size_t part;
+};
+
+/*
  * A value of a JSON text, or the name of a member. Offsets are in bytes from the start of the
  * text.
  */
@@ -2124,6 +2140,59 @@ enum pergidau_code pergidau_json_diagnose(
     size_t text_length,
     size_t max_depth,
     struct pergidau_json_diagnostic *out);
+
+/*
+ * Finds the end of a JSON value (RFC 8259) in input that arrives in chunks. Whitespace before
+ * the value is skipped, and counts as part of it.
+ *
+ * No call looks again at bytes that an earlier call scanned, so all calls for a value take
+ * time linear in its length. The function does not allocate. Values are those of
+ * pergidau_json_check, in UTF-8: pass the bytes of a value to a function for complete texts.
+ *
+ * is_complete is 0 if more bytes may follow, and otherwise bytes is complete input. Arrays and
+ * objects may be nested as deep as brackets has bytes: it receives the open brackets.
+ *
+ * For the first call, state must be all zeros; the contents of brackets are not used. Each
+ * further call for the same value must have the state and the brackets that the previous call
+ * left, and the bytes of the previous call followed by more bytes.
+ *
+ * PERGIDAU_DONE: bytes starts with a value, whose length is written; it ends there regardless
+ * of what follows. A number ends at the next byte, or at the end of complete input. The state
+ * is all zeros again: for the next value, pass the bytes after this one.
+ *
+ * PERGIDAU_INCOMPLETE: more bytes may follow, and bytes does not have the end of a value yet.
+ * 0 is written. The caller must limit how many bytes are buffered.
+ *
+ * PERGIDAU_END: complete input is only whitespace. 0 is written.
+ *
+ * If state or brackets belong to other bytes or were modified, the result may be wrong, but
+ * nothing outside bytes is read, and what is written is at most bytes_length.
+ *
+ * # Errors
+ *
+ * bytes does not start with a value, regardless of what follows. The offset of the first byte
+ * with which no value continues is written, and the state is all zeros again.
+ *
+ * PERGIDAU_INVALID: no depth limit permits that byte. Or complete input ends in a value; then
+ * the offset is bytes_length.
+ *
+ * PERGIDAU_TOO_DEEP: that byte opens a bracket that is nested deeper than brackets has bytes.
+ *
+ * # Safety
+ *
+ * state must be valid for reads and writes of one state, brackets for reads and writes of
+ * brackets_length bytes, and out for writes of one length. bytes must be valid for reads of
+ * bytes_length bytes, which must not change during the call. None of these may overlap. The
+ * call needs 16 KiB of stack.
+ */
+enum pergidau_code pergidau_json_extent(
+    struct pergidau_json_value_state *state,
+    const uint8_t *bytes,
+    size_t bytes_length,
+    uint32_t is_complete,
+    uint8_t *brackets,
+    size_t brackets_length,
+    size_t *out);
 
 /*
  * Converts the longest JSON number (RFC 8259) at the start of bytes to a signed 64-bit

@@ -486,6 +486,20 @@ inline result<pergidau_json_diagnostic> json_diagnose(input text, std::size_t ma
     return out;
 }
 
+/* Finds the end of a JSON value (RFC 8259) in input that arrives in chunks. */
+inline result<std::size_t> json_extent(
+    pergidau_json_value_state &state,
+    input bytes,
+    std::uint32_t is_complete,
+    output brackets) noexcept
+{
+    result<std::size_t> out{};
+    out.code = pergidau_json_extent(
+        &state, bytes.data(), bytes.size(), is_complete, brackets.data(), brackets.size(),
+        &out.value);
+    return out;
+}
+
 /* Converts the longest JSON number (RFC 8259) at the start of bytes to a signed 64-bit integer. */
 inline result<std::int64_t> json_integer(input bytes) noexcept
 {

@@ -58,14 +58,14 @@ void *__wrap_realloc(void *block, size_t size)
     return grown;
 }
 
-enum call { CALC, PAIR, DOCUMENT, ENTRY, LOOKUP, CHECK, VALUE, NEXT, STEP, STRING, INTEGER, NATURAL, DECIMAL, DIAGNOSE, MEMBER, NODES, HEAD,
+enum call { CALC, PAIR, DOCUMENT, ENTRY, LOOKUP, CHECK, VALUE, NEXT, STEP, STRING, INTEGER, NATURAL, DECIMAL, DIAGNOSE, MEMBER, NODES, VALUE_EXTENT, HEAD,
             HEAD_IN_PIECES, HEAD_EXTENT, REQUEST_BODY, FIELD, RESPONSE, RESPONSE_IN_PIECES, RESPONSE_EXTENT, RECORD, RECORD_IN_PIECES,
             RECORD_EXTENT, CSV_WRITE, REPLY, REPLY_IN_PIECES, EXTENT, RESP_NODES, COMMAND, CHUNKED, POSITION,
             TOML, DNS_HEADER, DNS_NAME, DNS_QUESTION, DNS_RECORD };
 static const char *const names[] = {
     "calc_value", "pair_line", "pair_document", "ini_next", "ini_get", "json_check", "json_value", "json_next",
     "json_step", "json_string", "json_integer", "json_natural", "json_decimal", "json_diagnose",
-    "json_member", "json_nodes", "http_head", "http_head_partial",
+    "json_member", "json_nodes", "json_extent", "http_head", "http_head_partial",
     "http_head_extent", "http_request_body", "http_field", "http_response_head", "http_response_head_partial",
     "http_response_head_extent", "csv_record",
     "csv_record_partial", "csv_record_extent", "csv_write", "resp_reply", "resp_reply_partial",
@@ -120,6 +120,8 @@ static const struct {
     {DIAGNOSE, "", "{\"a\":", "", LENGTH / 5, 1, 512},
     {DIAGNOSE, "[", "[{}],", "1x", LENGTH / 5, 1, 512},
     {NODES, "", "[", "", LENGTH, 0, 512},
+    {VALUE_EXTENT, "", "[", "", LENGTH, 0, 16},
+    {VALUE_EXTENT, "\"", "\\u0061", "\"", LENGTH / 6, 0, 16},
     {NODES, "", "{\"a\":", "", LENGTH / 5, 0, 512},
     {MEMBER, "{\"b\":", "[", "", LENGTH, 0, 512},
     {MEMBER, "{", "\"a\":1,", "", LENGTH / 6, 0, 512},
@@ -211,6 +213,7 @@ static enum pergidau_code call(enum call which, size_t max_depth)
     uint64_t natural;
     struct pergidau_decimal decimal;
     struct pergidau_json_diagnostic diagnostic;
+    struct pergidau_json_value_state value = {0};
     struct pergidau_head head;
     struct pergidau_http_head_state passed = {0};
     struct pergidau_http_body body;
@@ -267,6 +270,8 @@ static enum pergidau_code call(enum call which, size_t max_depth)
         return pergidau_json_member(bytes, length, max_depth, bytes, length, 0, &found);
     case NODES:
         return pergidau_json_nodes(bytes, length, max_depth, NULL, 0, &found);
+    case VALUE_EXTENT:
+        return pergidau_json_extent(&value, bytes, length, 1, written, sizeof written, &found);
     case HEAD:
         return pergidau_http_head(bytes, length, NULL, 0, &head);
     case HEAD_IN_PIECES:

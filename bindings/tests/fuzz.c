@@ -419,6 +419,7 @@ static void read_chunked(const uint8_t *bytes, size_t length)
 #include "bodies_fuzz.h"
 #include "dns_fuzz.h"
 #include "ini_fuzz.h"
+#include "json_extent_fuzz.h"
 #include "json_fuzz.h"
 #include "json_lookup_fuzz.h"
 #include "json_nodes_fuzz.h"
@@ -441,6 +442,7 @@ static void read_all(const uint8_t *bytes, size_t length)
     read_values(bytes, length);
     read_tokens(bytes, length);
     read_nodes(bytes, length);
+    read_value_extent(bytes, length);
     read_diagnosis(bytes, length);
     read_members(bytes, length);
     read_document(bytes, length);

@@ -28,6 +28,7 @@ static uint8_t *copied(const char *text, size_t length)
 }
 
 #include "ini_rows.h"
+#include "json_extent_rows.h"
 #include "json_lookup_rows.h"
 #include "json_nodes_rows.h"
 #include "json_rows.h"
@@ -1305,6 +1306,7 @@ int main(void)
     test_json();
     test_steps();
     test_nodes();
+    test_json_extents();
     test_strings();
     test_integers();
     test_diagnoses();

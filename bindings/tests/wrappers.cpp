@@ -148,6 +148,10 @@ static void json_and_toml()
     EXPECT(*pergidau::json_nodes("{\"a\": [1]}", 2, nodes) == 4 && nodes[1].next == 2);
     EXPECT(pergidau::json_step("[1]")->kind == PERGIDAU_JSON_BEGIN_ARRAY);
     EXPECT(pergidau::json_string("\"\\u0061\"", buffer)->text == 1 && buffer[0] == 'a');
+    pergidau_json_value_state state{};
+    EXPECT(*pergidau::json_extent(state, " [1] 2", 0, buffer) == 4);
+    EXPECT(*pergidau::json_extent(state, " 2", 1, buffer) == 2);
+    EXPECT(pergidau::json_extent(state, "[1", 0, buffer).code == PERGIDAU_INCOMPLETE);
     EXPECT(pergidau::toml_document("a = 7", 4, buffer, tables) && tables[1].value.integer == 7);
 }
 

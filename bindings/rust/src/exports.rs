@@ -943,6 +943,22 @@ pub struct JsonDiagnostic {
     pub letter: u8,
 }
 
+/// The state of a search for the end of a JSON value in input that arrives in chunks. Only the
+/// functions of this library may interpret its fields. All zeros is the initial state, and also the
+/// state after a value or an error.
+#[repr(C)]
+#[derive(Clone, Copy, Debug, Default, PartialEq, Eq)]
+pub struct JsonValueState {
+    /// How many bytes were passed.
+    pub passed: usize,
+    /// How many brackets are open.
+    pub depth: usize,
+    /// The kind of the input that is expected next; 0 before a value.
+    pub mode: usize,
+    /// The part of a string, a number or a word that is expected next.
+    pub part: usize,
+}
+
 /// A value of a JSON text, or the name of a member. Offsets are in bytes from the start of the
 /// text.
 #[repr(C)]
@@ -2065,6 +2081,58 @@ extern "C" {
         text_length: usize,
         max_depth: usize,
         out: *mut JsonDiagnostic,
+    ) -> u32;
+
+    /// Finds the end of a JSON value (RFC 8259) in input that arrives in chunks. Whitespace before the
+    /// value is skipped, and counts as part of it.
+    ///
+    /// No call looks again at bytes that an earlier call scanned, so all calls for a value take time
+    /// linear in its length. The function does not allocate. Values are those of `exported_json_check`,
+    /// in UTF-8: pass the bytes of a value to a function for complete texts.
+    ///
+    /// `is_complete` is 0 if more bytes may follow, and otherwise `bytes` is complete input. Arrays and
+    /// objects may be nested as deep as `brackets` has bytes: it receives the open brackets.
+    ///
+    /// For the first call, `state` must be all zeros; the contents of `brackets` are not used. Each
+    /// further call for the same value must have the state and the brackets that the previous call
+    /// left, and the bytes of the previous call followed by more bytes.
+    ///
+    /// `DONE`: `bytes` starts with a value, whose length is written; it ends there regardless of what
+    /// follows. A number ends at the next byte, or at the end of complete input. The state is all zeros
+    /// again: for the next value, pass the bytes after this one.
+    ///
+    /// `INCOMPLETE`: more bytes may follow, and `bytes` does not have the end of a value yet. 0 is
+    /// written. The caller must limit how many bytes are buffered.
+    ///
+    /// `END`: complete input is only whitespace. 0 is written.
+    ///
+    /// If `state` or `brackets` belong to other bytes or were modified, the result may be wrong, but
+    /// nothing outside `bytes` is read, and what is written is at most `bytes_length`.
+    ///
+    /// # Errors
+    ///
+    /// `bytes` does not start with a value, regardless of what follows. The offset of the first byte
+    /// with which no value continues is written, and the state is all zeros again.
+    ///
+    /// `INVALID`: no depth limit permits that byte. Or complete input ends in a value; then the offset
+    /// is `bytes_length`.
+    ///
+    /// `TOO_DEEP`: that byte opens a bracket that is nested deeper than `brackets` has bytes.
+    ///
+    /// # Safety
+    ///
+    /// `state` must be valid for reads and writes of one state, `brackets` for reads and writes of
+    /// `brackets_length` bytes, and `out` for writes of one length. `bytes` must be valid for reads of
+    /// `bytes_length` bytes, which must not change during the call. None of these may overlap. The call
+    /// needs 16 KiB of stack.
+    pub fn exported_json_extent(
+        state: *mut JsonValueState,
+        bytes: *const u8,
+        bytes_length: usize,
+        is_complete: u32,
+        brackets: *mut u8,
+        brackets_length: usize,
+        out: *mut usize,
     ) -> u32;
 
     /// Converts the longest JSON number (RFC 8259) at the start of `bytes` to a signed 64-bit integer.

@@ -17,6 +17,8 @@
 //!
 //! [`nodes`] writes all values into a buffer, also in one pass, for callers that visit most of them.
 //!
+//! [`Extent`] finds where values end in input that arrives in chunks.
+//!
 //! [`Value::get`] and [`Value::pointer`] find single values:
 //!
 //! ```
@@ -30,12 +32,14 @@ use crate::exports::{self, JsonItem};
 use crate::{Error, NOTHING};
 
 mod diagnostic;
+mod extent;
 mod lookup;
 mod nodes;
 mod scalars;
 mod steps;
 
 pub use diagnostic::{diagnose, Diagnostic, Expected};
+pub use extent::Extent;
 pub use nodes::{nodes, Item, ItemElements, ItemMembers, Node, Nodes};
 #[cfg(feature = "alloc")]
 pub use nodes::OwnedNodes;

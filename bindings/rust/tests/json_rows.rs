@@ -1,6 +1,6 @@
 //! Tables of JSON texts and their values, from Rust. The expected results are those of Python's
 //! `json`.
-use pergidau::json::{self, Kind, Step};
+use pergidau::json::{self, Extent, Kind, Step};
 use pergidau::{Error, RequiredSize};
 
 /// Formats the steps of a text.
@@ -201,4 +201,55 @@ fn diagnoses() {
     assert_eq!((large.error, large.position), (Error::MaxDepthTooLarge, None));
     let deep = json::diagnose(b"[[1]]", 1).unwrap_err();
     assert_eq!((deep.error, deep.expected), (Error::TooDeep(1), None));
+}
+
+#[test]
+fn extent_of_pieces() {
+    let rows: [(&[u8], usize); 9] = [
+        (b"null", 4),
+        (b" \"a\\u00e9\xc3\xa9\",", 12),
+        (b"-1.5e3\n", 6),
+        (b"0-", 1),
+        (b"[]]", 2),
+        (b"{\"a\":[1, {}]} ", 13),
+        (b"\r\n[[],[]]", 9),
+        (b"\"\\ud834\\udd1e\" ", 14),
+        (b"12x", 2),
+    ];
+    for (bytes, whole) in rows {
+        for step in 1..=bytes.len() {
+            let (mut extent, mut have) = (Extent::new(3), 0);
+            let end = loop {
+                have = bytes.len().min(have + step);
+                match extent.advance(&bytes[..have]).unwrap() {
+                    Some(end) => break end,
+                    None => assert!(have <= whole, "{bytes:?} {step}"),
+                }
+            };
+            assert_eq!(end, whole, "{bytes:?} {step}");
+            assert_eq!(extent.finish(b" 7"), Ok(Some(2)));
+        }
+        assert_eq!(Extent::new(3).finish(&bytes[..whole]), Ok(Some(whole)), "{bytes:?}");
+    }
+    let rows: [(&[u8], Error); 7] = [
+        (b"x", Error::Invalid(Some(0))),
+        (b"[1,]", Error::Invalid(Some(3))),
+        (b"\"\xff\"", Error::Invalid(Some(1))),
+        (b"01", Error::Invalid(Some(1))),
+        (b"[[[", Error::TooDeep(2)),
+        (b"{\"a\":{\"b\":{", Error::TooDeep(10)),
+        (b"tru ", Error::Invalid(Some(3))),
+    ];
+    for (bytes, error) in rows {
+        let mut extent = Extent::new(2);
+        let offset = error.offset().unwrap();
+        for have in 0..=offset {
+            assert_eq!(extent.advance(&bytes[..have]), Ok(None), "{bytes:?} {have}");
+        }
+        assert_eq!(extent.advance(&bytes[..offset + 1]), Err(error), "{bytes:?}");
+        assert_eq!(Extent::new(2).finish(bytes), Err(error), "{bytes:?}");
+    }
+    assert_eq!(Extent::new(0).finish(b" \n"), Ok(None));
+    assert_eq!(Extent::new(1).finish(b"[1"), Err(Error::Invalid(Some(2))));
+    assert_eq!(Extent::new(pergidau::MAX_DEPTH + 1).advance(b"1"), Err(Error::MaxDepthTooLarge));
 }

@@ -12,6 +12,7 @@ pub mod IniTexts
 pub mod Items
 pub mod JsonDecimals
 pub mod JsonDiagnostics
+pub mod JsonExtent
 pub mod JsonIntegers
 pub mod JsonTexts
 pub mod Nodes

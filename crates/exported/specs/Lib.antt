@@ -14,6 +14,7 @@ pub mod Ini
 pub mod Json
 pub mod JsonDecimal
 pub mod JsonDiagnostic
+pub mod JsonExtent
 pub mod JsonInteger
 pub mod JsonMember
 pub mod JsonStep

@@ -13,6 +13,7 @@ ghost use Rattle.exported.specs.Json.{ShowsItem, no_item, number_of};
 
 pub mod decimal;
 pub mod diagnostic;
+pub mod extent;
 pub mod integer;
 pub mod member;
 pub mod nodes;

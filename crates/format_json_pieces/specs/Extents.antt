@@ -78,6 +78,10 @@ abbrev pub IsOf : ValueExtent → List ℕ → List ℕ → Type 0
 IsOf extent opened bytes =
     (left : List ℕ) × Walked extent opened bytes left × (extent.passed + length left ≡ length bytes)
 
+-- nothing is passed
+abbrev pub IsNew : ValueExtent → Type 0
+IsNew extent = (extent.passed ≡ 0) × (extent.depth ≡ 0) × (extent.mode ≡ modes.Value)
+
 -- ---- results
 
 -- `EndsAt level bytes n`: the first `n` bytes are a value, after whitespace, and the value ends

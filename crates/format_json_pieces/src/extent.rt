@@ -5,7 +5,8 @@
 //! [`read_next_in_pieces`](crate::value::read_next_in_pieces) then reads it.
 ghost use Rattle.format_json_extents.specs.Texts.{MatchesAtStart};
 ghost use Rattle.format_json_pieces.specs.Begun.{last_open};
-ghost use Rattle.format_json_pieces.specs.Extents.{ExtentResult, IsClosed, IsOf, IsOpened, IsPlain};
+ghost use Rattle.format_json_pieces.specs.Extents.{ExtentResult, IsClosed, IsNew, IsOf, IsOpened};
+ghost use Rattle.format_json_pieces.specs.Extents.{IsPlain};
 ghost use Rattle.format_json_pieces.specs.Extents.{IsTurn, SkipsIn, SkipsPlain, Walked};
 ghost use Rattle.format_json_pieces.specs.Extents.{WholeResult, Within, bracket_at, brackets_in};
 ghost use Rattle.format_json_pieces.specs.Extents.{byte_of};
@@ -140,7 +141,8 @@ impl ValueExtent {
     /// assert!(rt; ValueExtent::new().passed == 0);
     /// ```
     pub fn new() -> ValueExtent
-        ensures { (brackets bytes : List ℕ) → IsOf result brackets bytes }
+        ensures of { (brackets bytes : List ℕ) → IsOf result brackets bytes }
+        ensures is_new { IsNew result }
     {
         ValueExtent {
             passed: 0,
@@ -234,6 +236,7 @@ impl ValueExtent {
         ensures kept { Walked self.old brackets.old bytes.now from.now
             → (more : List ℕ) → IsOf self.new brackets.new (bytes.now ++ more) }
         ensures all { result ≡ Ok None → self.new.passed ≡ length bytes.now }
+        ensures again { (result ≡ Ok None → ⊥) → IsNew self.new }
         ensures within { Within (length bytes.now) result }
     {
         let mut left = from;
@@ -309,6 +312,7 @@ impl ValueExtent {
             → (more : List ℕ) → IsOf self.new brackets.new (bytes.now ++ more) }
         ensures all { IsOf self.old brackets.old bytes.now → result ≡ Ok None
             → self.new.passed ≡ length bytes.now }
+        ensures again { (result ≡ Ok None → ⊥) → IsNew self.new }
         ensures within { Within (length bytes.now) result }
     {
         match bytes.get(self.passed..) {
@@ -340,8 +344,7 @@ impl ValueExtent {
     pub fn finish(&mut self, brackets: &mut [u8], bytes: &[u8]) -> Result<Option<usize>, Invalid>
         ensures told { IsOf self.old brackets.old bytes.now
             → WholeResult (length brackets.old) bytes.now result }
-        ensures kept { IsOf self.old brackets.old bytes.now
-            → (more : List ℕ) → IsOf self.new brackets.new (bytes.now ++ more) }
+        ensures again { IsNew self.new }
         ensures within { Within (length bytes.now) result }
     {
         match self.advance(brackets, bytes)? {

@@ -7,7 +7,7 @@ use Rattle.std.proofs.lemmas.List.{nil_from_length}
 use Rattle.format_json_pieces.specs.Begun.{IsAfterValue, IsNextStep, IsViablePrefix}
 use Rattle.format_json_pieces.specs.Begun.{last_open, next_step, others_open}
 use Rattle.format_json_pieces.specs.Extents.{Begins, EndsAt, EndsBefore, EndsNowhere}
-use Rattle.format_json_pieces.specs.Extents.{IsOf, IsReason, IsRejected}
+use Rattle.format_json_pieces.specs.Extents.{IsNew, IsOf, IsReason, IsRejected}
 use Rattle.format_json_pieces.specs.Extents.{IsRejectedStep, IsTurn, IsWalkedTo, SkipsPlain}
 use Rattle.format_json_pieces.specs.Extents.{Walked}
 use Rattle.format_json_pieces.specs.Extents.{brackets_in}
@@ -24,9 +24,8 @@ use Rattle.format_json_pieces.proofs.Extents.Turns.{brackets_length}
 
 -- ---- the bytes passed
 
-pub of_none : (e : ValueExtent) (opened bytes : List ℕ) → e.passed ≡ 0 → e.depth ≡ 0
-    → e.mode ≡ modes.Value → IsOf e opened bytes
-of_none e opened bytes none closed mode = (
+pub of_new : (e : ValueExtent) (opened bytes : List ℕ) → IsNew e → IsOf e opened bytes
+of_new e opened bytes (none, closed, mode) = (
   bytes,
   record {
     front = [];
