@@ -69,3 +69,7 @@ rank_close u n call x xs left value (inr same) (inr fewer) =
     rank_consumed u n call x.call (x ∷ xs) xs (Some left) (Some value) fewer (omega arith)
 rank_close u n call x xs left value (inr same) (inl behind) =
     omega (arith, same, behind, live_high n xs)
+
+-- the measure falls in two steps
+pub falls_on : {a b c : ℕ} → a < b → b < c → a < c
+falls_on less further = omega (arith, less, further)

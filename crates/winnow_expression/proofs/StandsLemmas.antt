@@ -3,15 +3,18 @@ use Rattle.std.proofs.Common.{◌≡◌, ◌∙◌, ◌≤◌, ◌<◌, ◌⊎�
 use Rattle.std.proofs.Common.{List, [], ◌∷◌, ◌++◌, reverse, length, ap, subst, sym}
 use Rattle.std.proofs.Common.{inl, inr, refl, arith}
 use Rattle.std.proofs.lemmas.Bool.{cases_lt}
+use Rattle.stream_errors.specs.Form.{Answer}
 use Rattle.streams.specs.Input.{Input}
 use Rattle.winnow_expression.specs.Units.{units_left}
 use Rattle.winnow_expression.specs.Calls.{Call, Calls, Interrupts, Open, call_at}
 use Rattle.winnow_expression.specs.Grammar.{Folding, Grammar, Closes}
-use Rattle.winnow_expression.specs.Machine.{OperandStep, TurnStep}
+use Rattle.winnow_expression.specs.Machine.{OperandStep, PrefixedOperand, TurnStep, operand_fails}
+use Rattle.winnow_expression.specs.Machine.{operand_read, after_prefix}
 use Rattle.winnow_expression.proofs.EndLemmas.{popped}
 use Rattle.winnow_expression.proofs.LeadsLemmas.{leads_operand, leads_prefix, leads_infix}
 use Rattle.winnow_expression.proofs.LeadsLemmas.{leads_postfix, leads_close}
-use Rattle.winnow_expression.proofs.RankLemmas.{rank_consumed, rank_operand, rank_infix, rank_close}
+use Rattle.winnow_expression.proofs.RankLemmas.{falls_on, rank_close, rank_consumed, rank_infix}
+use Rattle.winnow_expression.proofs.RankLemmas.{rank_operand}
 use Rattle.winnow_expression.specs.declared.combinator.calls.Operator.{Operator}
 use Rattle.winnow_expression.specs.declared.combinator.calls.Operator.TheVariants.{
   Prefix as prefix_open,
@@ -50,69 +53,72 @@ pushed g whole z o calls after x power t j opened known nested =
 
 pub operand_kept : {S W T V F G H : Type 0} (g : Grammar S W T V F G H) (whole : Call)
     (z : S × W) (o : Input T) (calls after : Calls V F H) (given left : Option V) (s : S × W)
-    (t : S) (i j : Input T) → Invariant g whole z o calls given s i → given ≡ None
-    → OperandStep g.folding.units g.first g.folding.refusal calls s.0 i (Ok left) after t j
+    (t : S) (i j : Input T) → Invariant g whole z o calls None s i → given ≡ left
+    → OperandStep g.folding.units g.first g.folding.refusal calls s.0 i (Ok given) after t j
     → units_left g.folding.units j ≤ units_left g.folding.units i
     → Invariant g whole z o after left (t, s.1) j
     × (rank (units_left g.folding.units j) after.present (reverse after.opened) left
-    < rank (units_left g.folding.units i) calls.present (reverse calls.opened) given)
-operand_kept {V = V} g whole z o calls after given left s t i j stands none step ends =
-    let P : Option V → Type 0 = λ l. Invariant g whole z o calls l s i in
-    let Q : Option V → Type 0 =
-    λ l. rank (units_left g.folding.units j) after.present (reverse after.opened) left
-    < rank (units_left g.folding.units i) calls.present (reverse calls.opened) l in
-    let both = kept g whole z o calls after left s t i j (subst P none stands) step ends in
-    (both.0, subst Q (sym none) both.1)
-  where
-    kept : {S W T V F G H : Type 0} (g : Grammar S W T V F G H) (whole : Call)
-        (z : S × W) (o : Input T) (calls after : Calls V F H) (left : Option V) (s : S × W)
-        (t : S) (i j : Input T) → Invariant g whole z o calls None s i
-        → OperandStep g.folding.units g.first g.folding.refusal calls s.0 i (Ok left) after t j
-        → units_left g.folding.units j ≤ units_left g.folding.units i
-        → Invariant g whole z o after left (t, s.1) j
-        × (rank (units_left g.folding.units j) after.present (reverse after.opened) left
-        < rank (units_left g.folding.units i) calls.present (reverse calls.opened) None)
-    kept g whole z o calls after left s t i j stands (inl (kind, failed, e)) ends = absurd (cc)
-    kept {V = V} g whole z o calls after left s t i j stands (inr (inl (v, read, e, same))) ends =
-        let R : Calls _ _ _ → Option V → Type 0 = λ c l. Invariant g whole z o c l (t, s.1) j
-        × (rank (units_left g.folding.units j) c.present (reverse c.opened) l
-        < rank (units_left g.folding.units i) calls.present (reverse calls.opened) None) in
-        let is : left ≡ Some v = cc in
-        subst (λ c. R c left) (sym same) (subst (R calls) (sym is) (
-          (
-            leads_operand g whole calls.present z o (reverse calls.opened) v s t i j
-                stands.0 read,
+    < rank (units_left g.folding.units i) calls.present (reverse calls.opened) None)
+operand_kept g whole z o calls after given left s t i j stands at (inl (kind, failed, e)) ends =
+    absurd (cc)
+operand_kept {V = V} g whole z o calls after given left s t i j stands at
+    (inr (inl (v, read, e, same))) ends =
+    let R : Calls _ _ _ → Option V → Type 0 = λ c l. Invariant g whole z o c l (t, s.1) j
+    × (rank (units_left g.folding.units j) c.present (reverse c.opened) l
+    < rank (units_left g.folding.units i) calls.present (reverse calls.opened) None) in
+    let is : left ≡ Some v = cc in
+    subst (λ c. R c left) (sym same) (subst (R calls) (sym is) (
+      (
+        leads_operand g whole calls.present z o (reverse calls.opened) v s t i j stands.0 read,
+        stands.1,
+        omega (arith, ends, stands.2),
+        tt,
+      ),
+      rank_operand (units_left g.folding.units i) (units_left g.folding.units j) calls.present
+          (reverse calls.opened) v
+          (fewer_or_same (units_left g.folding.units j) (units_left g.folding.units i) ends),
+    ))
+operand_kept {V = V} g whole z o calls after given left s t i j stands at
+    (inr (inr (x, power, read, e, opened))) ends =
+    let R : Option V → Type 0 = λ l. Invariant g whole z o after l (t, s.1) j
+    × (rank (units_left g.folding.units j) after.present (reverse after.opened) l
+    < rank (units_left g.folding.units i) calls.present (reverse calls.opened) None) in
+    let is : left ≡ None = cc in
+    let N : Open _ _ _ → Type 0 =
+    λ y. Nested (y ∷ reverse calls.opened) (units_left g.folding.units j) in
+    subst R (sym is) (
+      pushed g whole z o calls after x power (t, s.1) j opened
+          (leads_prefix g whole calls.present z o (reverse calls.opened) x power s t i j stands.0
+          read)
+          (subst N (sym read.3) (
+            omega (arith, read.2, stands.2, stands.3),
+            omega (arith, stands.3),
             stands.1,
-            omega (arith, ends, stands.2),
-            tt,
-          ),
-          rank_operand (units_left g.folding.units i) (units_left g.folding.units j)
-              calls.present (reverse calls.opened) v
-              (fewer_or_same (units_left g.folding.units j) (units_left g.folding.units i)
-              ends),
-        ))
-    kept {V = V} g whole z o calls after left s t i j stands
-        (inr (inr (x, power, read, e, opened))) ends =
-        let R : Option V → Type 0 = λ l. Invariant g whole z o after l (t, s.1) j
-        × (rank (units_left g.folding.units j) after.present (reverse after.opened) l
-        < rank (units_left g.folding.units i) calls.present (reverse calls.opened) None) in
-        let is : left ≡ None = cc in
-        let N : Open _ _ _ → Type 0 =
-        λ y. Nested (y ∷ reverse calls.opened) (units_left g.folding.units j) in
-        subst R (sym is) (
-          pushed g whole z o calls after x power (t, s.1) j opened
-              (leads_prefix g whole calls.present z o (reverse calls.opened) x power s t i j
-              stands.0 read)
-              (subst N (sym read.3) (
-                omega (arith, read.2, stands.2, stands.3),
-                omega (arith, stands.3),
-                stands.1,
-              )),
-          rank_consumed (units_left g.folding.units i) (units_left g.folding.units j)
-              calls.present after.present
-              (reverse calls.opened) (reverse after.opened) None None read.2
-              (omega (arith, ap length (popped after.opened calls.opened x opened.0))),
-        )
+          )),
+      rank_consumed (units_left g.folding.units i) (units_left g.folding.units j) calls.present
+          after.present (reverse calls.opened) (reverse after.opened) None None read.2
+          (omega (arith, ap length (popped after.opened calls.opened x opened.0))),
+    )
+
+-- ... with the prefixes before it
+pub operands_kept : {S W T V F G H : Type 0} (g : Grammar S W T V F G H) (whole : Call)
+    (z : S × W) (o : Input T) (calls after : Calls V F H) (v : V) (a : Answer V) (s : S × W)
+    (t : S) (i j : Input T) → Invariant g whole z o calls None s i → a ≡ Ok v
+    → PrefixedOperand g.folding.units g.first g.folding.refusal calls s.0 i a after t j
+    → Invariant g whole z o after (Some v) (t, s.1) j
+    × (rank (units_left g.folding.units j) after.present (reverse after.opened) (Some v)
+    < rank {V = V} (units_left g.folding.units i) calls.present (reverse calls.opened) None)
+operands_kept g whole z o _ _ v _ s _ _ _ stands is
+    (operand_read calls after s0 t i j a w step less e) =
+    let same : Some w ≡ Some v = cc in
+    operand_kept g whole z o calls after (Some w) (Some v) s t i j stands same step less
+operands_kept g whole z o _ _ v _ s _ _ _ stands is
+    (operand_fails calls after s0 t i j a kind step e) = absurd (cc)
+operands_kept g whole z o _ _ v _ s _ _ _ stands is
+    (after_prefix calls between after s0 u t i m j a step less more) =
+    let one = operand_kept g whole z o calls between None None s u i m stands refl step less in
+    let rest = operands_kept g whole z o between after v a (u, s.1) t m j one.0 is more in
+    (rest.0, falls_on rest.1 one.1)
 
 pub infix_kept : {S W T V F G H : Type 0} (g : Grammar S W T V F G H) (whole : Call)
     (z : S × W) (o : Input T) (calls after : Calls V F H) (left : V) (s : S × W)

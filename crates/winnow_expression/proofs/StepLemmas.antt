@@ -1,5 +1,5 @@
 -- The steps of the loop, by their results.
-use Rattle.std.proofs.Common.{◌≡◌, ℕ, ℤ, Ok, Err}
+use Rattle.std.proofs.Common.{◌≡◌, ◌<◌, ℕ, ℤ, Option, None, Ok, Err}
 use Rattle.std.proofs.Common.{true, false, List, subst, sym}
 use Rattle.std.proofs.Common.{inl, inr}
 use Rattle.stream_errors.specs.Form.{Answer}
@@ -10,10 +10,29 @@ use Rattle.winnow_expression.specs.Units.{units_left}
 use Rattle.winnow_expression.specs.Calls.{Calls, Interrupts, Open}
 use Rattle.winnow_expression.specs.Grammar.{Infixes, Postfixes}
 use Rattle.winnow_expression.specs.Grammar.{TurnEnds}
-use Rattle.winnow_expression.specs.Machine.{TurnStep}
+use Rattle.winnow_expression.specs.Machine.{OperandStep, TurnStep}
+use Rattle.winnow_expression.specs.declared.combinator.places.First.{First}
 use Rattle.winnow_expression.specs.declared.combinator.places.Next.{Next}
 use Rattle.winnow_expression.specs.declared.combinator.machine.Turn.TheVariants.{Ends, EndsAll}
 use Rattle.winnow_expression.specs.declared.combinator.machine.Turn.TheVariants.{Goes, Interrupted}
+
+-- a prefix consumes something
+pub prefix_consumes : {S T V F H : Type 0} (units : List T → ℕ) (first : Runs S T (First V F))
+    (refusal : Kind) {calls after : Calls V F H} {s t : S} {i j : Input T}
+    → OperandStep units first refusal calls s i (Ok None) after t j
+    → units_left units j < units_left units i
+prefix_consumes units first refusal (inl (kind, failed, e)) = absurd (cc)
+prefix_consumes units first refusal (inr (inl (v, read, e, same))) = absurd (cc)
+prefix_consumes units first refusal (inr (inr (x, power, read, e, opened))) = read.2
+
+-- the same step, with an equal result
+pub step_as : {S T V F H : Type 0} (units : List T → ℕ) (first : Runs S T (First V F))
+    (refusal : Kind) {calls after : Calls V F H} {s t : S} {i j : Input T} {given left : Option V}
+    → given ≡ left → OperandStep units first refusal calls s i (Ok given) after t j
+    → OperandStep units first refusal calls s i (Ok left) after t j
+step_as units first refusal {calls} {after} {s} {t} {i} {j} is step =
+    let P : Option _ → Type 0 =
+    λ l. OperandStep units first refusal calls s i (Ok l) after t j in subst P is step
 
 pub goes_of : {W T V F G H : Type 0} (units : List T → ℕ) (next : Runs W T (Next G H))
     (behind : G → Input T → V → Answer V → Input T → Type 0) (refusal : Kind)

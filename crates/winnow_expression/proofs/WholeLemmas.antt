@@ -1,5 +1,5 @@
 -- The start of the loop, and the result of the whole at its end.
-use Rattle.std.proofs.Common.{◌≡◌, ◌∙◌, ◌≤◌, ◌<◌, ℕ, ℤ, Option, Some, None, Ok, Err, Bool}
+use Rattle.std.proofs.Common.{◌≡◌, ◌∙◌, ◌≤◌, ℕ, ℤ, Some, None, Ok, Err, Bool}
 use Rattle.std.proofs.Common.{false, List, [], ◌∷◌, ◌++◌, reverse, ap, subst, sym}
 use Rattle.std.proofs.Common.{inl, inr, refl, arith}
 use Rattle.stream_errors.specs.Form.{Answer}
@@ -10,7 +10,8 @@ use Rattle.winnow_expression.specs.Units.{units_left}
 use Rattle.winnow_expression.specs.Calls.{Call, Calls, Open, call_at}
 use Rattle.winnow_expression.specs.Expression.{TreeRuns, ExpressionRuns}
 use Rattle.winnow_expression.specs.Grammar.{Grammar, CallEnds, Closes}
-use Rattle.winnow_expression.specs.Machine.{AllEnd, OperandStep, TurnStep}
+use Rattle.winnow_expression.specs.Machine.{AllEnd, OperandStep, PrefixedOperand, TurnStep}
+use Rattle.winnow_expression.specs.Machine.{operand_fails, operand_read, after_prefix}
 use Rattle.winnow_expression.proofs.LeadsLemmas.{call_fails, turn_fails}
 use Rattle.winnow_expression.proofs.LeadsLemmas.{close_fails, call_done, all_done, expression_all}
 use Rattle.winnow_expression.proofs.LeadsLemmas.{expression_fails, of_all}
@@ -18,8 +19,8 @@ use Rattle.winnow_expression.specs.declared.combinator.places.Next.{Next}
 use Rattle.winnow_expression.specs.declared.combinator.machine.Turn.{Turn}
 use Rattle.winnow_expression.specs.declared.combinator.machine.Turn.TheVariants.{Ends, EndsAll}
 use Rattle.winnow_expression.proofs.StepLemmas.{all_of, ends_of, failure_of}
-use Rattle.winnow_expression.proofs.StandsLemmas.{above_last}
-use Rattle.winnow_expression.proofs.Loop.{Continues, Nested, Invariant, rank}
+use Rattle.winnow_expression.proofs.StandsLemmas.{above_last, operand_kept}
+use Rattle.winnow_expression.proofs.Loop.{Continues, Invariant, Nested}
 
 at_level : {S W T V F G H : Type 0} (g : Grammar S W T V F G H) (level given : ℤ) (z : S × W)
     (o : Input T) (a : Answer (V × Bool)) (t : S × W) (j : Input T) → given ≡ level
@@ -30,30 +31,45 @@ at_level g level given z o a t j is runs =
     λ l. TreeRuns g (call_at l (units_left g.folding.units o)) z o a t j in subst P is runs
 
 pub operand_ends : {S W T V F G H : Type 0} (g : Grammar S W T V F G H) (level given : ℤ)
-    (z : S × W) (o : Input T) (calls after : Calls V F H) (before : Option V) (answer : Answer V)
-    (kind : Kind) (s : S × W) (t : S) (i j : Input T) → given ≡ level
-    → Invariant g (call_at given (units_left g.folding.units o)) z o calls before s i
-    → before ≡ None
+    (z : S × W) (o : Input T) (calls after : Calls V F H) (answer : Answer V) (kind : Kind)
+    (s : S × W) (t : S) (i j : Input T) → given ≡ level
+    → Invariant g (call_at given (units_left g.folding.units o)) z o calls None s i
     → OperandStep g.folding.units g.first g.folding.refusal calls s.0 i (Err kind) after t j
     → answer ≡ Err kind
     → ExpressionRuns g level z o answer (t, s.1) j
-operand_ends {H = H} g level given z o calls after before answer kind s t i j is stands none
+operand_ends {H = H} g level given z o calls after answer kind s t i j is stands
     (inl (other, failed, e)) f =
-    let P : Option _ → Type 0 =
-    λ l. Continues g (call_at given (units_left g.folding.units o)) z o calls.present l
-    (reverse calls.opened) s i in
     let same : other ≡ kind = cc in
     let Q : Kind → Type 0 =
     λ k. CallEnds H g.folding.units g.first g.folding.refusal calls.present s.0 i k t j in
     expression_fails g level z o answer kind (t, s.1) j f
     (at_level g level given z o (Err kind) (t, s.1) j is
     (call_fails g (call_at given (units_left g.folding.units o)) calls.present z o
-    (reverse calls.opened) kind s
-    t i j (subst P none stands.0) (subst Q same failed)))
-operand_ends g level given z o calls after before answer kind s t i j is stands none
+    (reverse calls.opened) kind s t i j stands.0 (subst Q same failed)))
+operand_ends g level given z o calls after answer kind s t i j is stands
     (inr (inl (v, read, e, same))) f = absurd (cc)
-operand_ends g level given z o calls after before answer kind s t i j is stands none
+operand_ends g level given z o calls after answer kind s t i j is stands
     (inr (inr (x, power, read, e, opened))) f = absurd (cc)
+
+-- ... or after prefixes
+pub operands_end : {S W T V F G H : Type 0} (g : Grammar S W T V F G H) (level given : ℤ)
+    (z : S × W) (o : Input T) (calls after : Calls V F H) (answer a : Answer V) (kind : Kind)
+    (s : S × W) (t : S) (i j : Input T) → given ≡ level
+    → Invariant g (call_at given (units_left g.folding.units o)) z o calls None s i
+    → a ≡ Err kind
+    → PrefixedOperand g.folding.units g.first g.folding.refusal calls s.0 i a after t j
+    → answer ≡ Err kind → ExpressionRuns g level z o answer (t, s.1) j
+operands_end g level given z o _ _ answer _ kind s _ _ _ is stands failed
+    (operand_read calls after s0 t i j a v step less e) f = absurd (cc)
+operands_end g level given z o _ _ answer _ kind s _ _ _ is stands failed
+    (operand_fails calls after s0 t i j a other step e) f =
+    let same : answer ≡ Err other = cc in
+    operand_ends g level given z o calls after answer other s t i j is stands step same
+operands_end g level given z o _ _ answer _ kind s _ _ _ is stands failed
+    (after_prefix calls between after s0 u t i m j a step less more) f =
+    operands_end g level given z o between after answer a kind (u, s.1) t m j is
+    (operand_kept g (call_at given (units_left g.folding.units o)) z o calls between None None s u i
+    m stands refl step less).0 failed more f
 
 pub turn_ends_whole : {S W T V F G H : Type 0} (g : Grammar S W T V F G H) (level given : ℤ)
     (z : S × W) (o : Input T) (calls after : Calls V F H) (left : V) (answer : Answer V)
@@ -134,20 +150,6 @@ all_ends_whole g level given z o calls after left v answer s t i m j is stands s
     (all_done g (call_at given (units_left g.folding.units o)) calls.present z o left v
     (reverse calls.opened) s
     t i m j answer stands.0 ends (subst P (ap (λ c. reverse c.opened) same) ended_)))
-
-pub stands_at : {S W T V F G H : Type 0} (g : Grammar S W T V F G H) (whole : Call)
-    (z : S × W) (o : Input T) (calls : Calls V F H) (left : Option V) (v : V) (s : S × W)
-    (i : Input T) → Invariant g whole z o calls left s i → left ≡ Some v
-    → Invariant g whole z o calls (Some v) s i
-stands_at g whole z o calls left v s i stands is =
-    let P : Option _ → Type 0 = λ l. Invariant g whole z o calls l s i in subst P is stands
-
-pub falls_at : {V F H : Type 0} (u n : ℕ) (call later : Call) (xs ys : List (Open V F H))
-    (left after : Option V) (v : V) → left ≡ Some v
-    → rank n later ys after < rank u call xs (Some v) → rank n later ys after < rank u call xs left
-falls_at u n call later xs ys left after v is falls =
-    let P : Option _ → Type 0 =
-    λ l. rank n later ys after < rank u call xs l in subst P (sym is) falls
 
 pub step_at : {W T V F G H : Type 0} (units : List T → ℕ) (next : Runs W T (Next G H))
     (behind : G → Input T → V → Answer V → Input T → Type 0) (refusal : Kind)

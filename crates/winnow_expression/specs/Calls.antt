@@ -1,7 +1,6 @@
 -- Calls, and the operators that interrupt them.
 use Rattle.std.specs.Prelude.{◌≡◌, ◌+ℤ◌, ℕ, ℤ, pos, Option, Some, None, List, [], ◌∷◌, ◌++◌, map}
 use Rattle.winnow_expression.specs.declared.combinator.calls.Call.{Call as KeptCall}
-use Rattle.winnow_expression.specs.declared.combinator.calls.Calls.{Calls as KeptCalls}
 use Rattle.winnow_expression.specs.declared.combinator.calls.Open.{Open as KeptOpen}
 use Rattle.winnow_expression.specs.declared.combinator.calls.Operator.{Operator}
 use Rattle.winnow_expression.specs.declared.combinator.calls.Refuses.{Refuses}
@@ -14,12 +13,12 @@ pub record Call : Type 0 where
   pub least : ℤ
   -- the number of units that remained where it began
   pub began : ℕ
-  -- how many units were left where its present turn began
+  -- the number of units that remained where its present turn began
   pub turn : ℕ
   -- the power of the last infix, if that was a neither
   pub neither : Option ℤ
 
--- An operator whose right operand has begun, and the call that it interrupts.
+-- An operator whose right operand is read next, and the call that it interrupts.
 pub record Open (V F H : Type 0) : Type 0 where
   pub operator : Operator V F H
   pub call : Call
@@ -63,8 +62,8 @@ open_of x = record { operator = x.operator; call = call_of x.call }
 abbrev pub opens_of : {V F H : Type 0} → List (KeptOpen V F H) → List (Open V F H)
 opens_of xs = map open_of xs
 
-abbrev pub calls_of : {V F H A : Type 0} → KeptCalls V F H A → Calls V F H
-calls_of calls = record { present = call_of calls.present; opened = opens_of calls.open.items }
+abbrev pub calls_of : {V F H : Type 0} → KeptCall → List (KeptOpen V F H) → Calls V F H
+calls_of call xs = record { present = call_of call; opened = opens_of xs }
 
 -- a call that begins where `units` units remain
 abbrev pub call_at : ℤ → ℕ → Call

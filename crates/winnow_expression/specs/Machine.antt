@@ -1,6 +1,6 @@
 -- One step of the loop.
-use Rattle.std.specs.Prelude.{◌≡◌, ◌≤ℤ◌, ◌<ℤ◌, OnOk, ℕ, ℤ, Option, Some, None, Ok, Err, ◌⊎◌, Bool}
-use Rattle.std.specs.Prelude.{true, false, List, [], ◌∷◌}
+use Rattle.std.specs.Prelude.{◌≡◌, ◌≤◌, ◌≤ℤ◌, ◌<ℤ◌, OnOk, ℕ, ℤ, Option, Some, None, Ok, Err}
+use Rattle.std.specs.Prelude.{◌⊎◌, Bool, true, false, List, [], ◌∷◌}
 use Rattle.stream_errors.specs.Form.{Answer}
 use Rattle.streams.specs.Input.{Input, IsEndOf, Remaining, back_at}
 use Rattle.streams.specs.Reading.{Reading}
@@ -34,6 +34,23 @@ OperandStep {V = V} {F = F} {H = H} units first refusal calls s i answer after t
     × (after ≡ calls))
     ⊎ ((x : Open V F H) × (power : ℤ) × Prefixes units first calls.present s i x power t j
     × (answer ≡ Ok None) × Interrupts calls x power (units_left units j) after))
+
+-- Such steps: prefixes are opened, until an operand is read or one of them fails.
+pub data PrefixedOperand {S T V F H : Type 0} (units : List T → ℕ) (first : Runs S T (First V F))
+    (refusal : Kind) : Calls V F H → S → Input T → Answer V → Calls V F H → S → Input T → Type 0
+  where
+    operand_read : (calls after : Calls V F H) (s t : S) (i j : Input T) (a : Answer V) (v : V)
+        → OperandStep units first refusal calls s i (Ok (Some v)) after t j
+        → units_left units j ≤ units_left units i → a ≡ Ok v
+        → PrefixedOperand units first refusal calls s i a after t j
+    operand_fails : (calls after : Calls V F H) (s t : S) (i j : Input T) (a : Answer V)
+        (kind : Kind) → OperandStep units first refusal calls s i (Err kind) after t j
+        → a ≡ Err kind → PrefixedOperand units first refusal calls s i a after t j
+    after_prefix : (calls between after : Calls V F H) (s u t : S) (i m j : Input T) (a : Answer V)
+        → OperandStep units first refusal calls s i (Ok None) between u m
+        → units_left units m ≤ units_left units i
+        → PrefixedOperand units first refusal between u m a after t j
+        → PrefixedOperand units first refusal calls s i a after t j
 
 -- how a call ends, as the loop sees it
 abbrev pub ended : {V : Type 0} → Answer (V × Bool) → Answer (Turn V)

@@ -28,7 +28,7 @@ pub struct Call {
     pub least: i64,
     /// The number of units that remained where it began.
     pub began: usize,
-    /// How many units were left where its present turn began.
+    /// The number of units that remained where its present turn began.
     pub turn: usize,
     pub refuses: Refuses,
 }
@@ -101,47 +101,42 @@ impl Call {
     }
 }
 
-/// An operator whose right operand has begun, with the left operand of an infix.
+/// An operator whose right operand is read next, with the left operand of an infix.
 #[derive(Drop)]
 pub enum Operator<O, F, H> {
     Prefix(F),
     Infix(O, H),
 }
 
-/// An operator whose right operand has begun, and the call that it interrupts.
+/// An operator whose right operand is read next, and the call that it interrupts.
 #[derive(Drop)]
 pub struct Open<O, F, H> {
     pub operator: Operator<O, F, H>,
     pub call: Call,
 }
 
-/// The present call, and the open operators above it, the last one last.
-#[derive(Drop)]
-pub struct Calls<O, F, H, A: Allocator> {
-    pub present: Call,
-    pub open: Vec<Open<O, F, H>, A>,
-}
-
-impl<O: Drop, F: Drop, H: Drop, A: Allocator> Calls<O, F, H, A> {
-    /// Opens an operator: a call of this least power begins for its right operand. It fails only
-    /// where the list of open operators is full and could not grow.
-    pub fn interrupt(
-        &mut self,
-        above: Open<O, F, H>,
-        least: Option<i64>,
-        units: usize,
-    ) -> Result<(), ()>
-        ensures opened { OnOk result
-            (Interrupts (calls_of self.old) (open_of above) (asked least) units
-            (calls_of self.new)) }
-        ensures full { OnErr result (vec_capacity self.old.«open» ≤ vec_len self.old.«open») }
-    {
-        match self.open.push(above) {
-            Ok(()) => {
-                self.present = Call::new(least, units);
-                Ok(())
-            }
-            Err(_) => Err(()),
+/// Opens an operator: a call of this least power begins for its right operand. It fails only where
+/// the list of open operators is full and could not grow.
+///
+/// The call is not in one struct with the list, so that the compiler can keep it in registers.
+#[inline(always)]
+pub fn interrupt<O: Drop, F: Drop, H: Drop, A: Allocator>(
+    call: &mut Call,
+    operators: &mut Vec<Open<O, F, H>, A>,
+    above: Open<O, F, H>,
+    least: Option<i64>,
+    units: usize,
+) -> Result<(), ()>
+    ensures opened { OnOk result
+        (Interrupts (calls_of call.old operators.old.items) (open_of above) (asked least) units
+        (calls_of call.new operators.new.items)) }
+    ensures full { OnErr result (vec_capacity operators.old ≤ vec_len operators.old) }
+{
+    match operators.push(above) {
+        Ok(()) => {
+            *call = Call::new(least, units);
+            Ok(())
         }
+        Err(_) => Err(()),
     }
 }

@@ -7,9 +7,9 @@ ghost use Rattle.winnow_expression.specs.Calls.{call_of, calls_of, opens_of};
 ghost use Rattle.winnow_expression.specs.Expression.{ExpressionRuns};
 ghost use Rattle.winnow_expression.specs.Grammar.{Closes, folding, grammar};
 ghost use Rattle.winnow_expression.specs.Machine.{AllEnd, EndsToo, InfixTurn, OperandStep};
-ghost use Rattle.winnow_expression.specs.Machine.{PostfixTurn, TurnStep};
+ghost use Rattle.winnow_expression.specs.Machine.{PostfixTurn, PrefixedOperand, TurnStep};
 
-use crate::combinator::calls::{Call, Calls, Open, Operator};
+use crate::combinator::calls::{Call, Open, Operator, interrupt};
 use crate::combinator::folds::{FoldBinary, FoldUnary};
 use crate::combinator::operators::Infix;
 use crate::combinator::places::{First, Next};
@@ -57,6 +57,7 @@ pub fn close<I: Stream, O: Drop, E: ParserError<I>, F: FoldUnary<I, O, E>, H: Fo
 }
 
 /// Parses an operand, or a prefix, which is then open.
+#[inline(always)]
 pub fn operand_step<
     I: Stream,
     O: Drop,
@@ -65,12 +66,18 @@ pub fn operand_step<
     H: Drop,
     P: Parser<I, First<O, F>, E>,
     A: Allocator,
->(first: &mut P, calls: &mut Calls<O, F, H, A>, input: &mut I) -> Result<Option<O>, E>
+>(
+    first: &mut P,
+    call: &mut Call,
+    operators: &mut Vec<Open<O, F, H>, A>,
+    input: &mut I,
+) -> Result<Option<O>, E>
     requires { P.can_parse first.old }
     ensures again { P.can_parse first.new }
     ensures ran { OperandStep I.reading.units (Ran I.reading P.does E.form) (assert_kind E.form)
-        (calls_of calls.old) (P.state first.old) (I.view input.old)
-        (answer_by E.kind result) (calls_of calls.new) (P.state first.new) (I.view input.new) }
+        (calls_of call.old operators.old.items) (P.state first.old) (I.view input.old)
+        (answer_by E.kind result) (calls_of call.new operators.new.items) (P.state first.new)
+        (I.view input.new) }
     ensures ends { IsEndOf I.reading (I.view input.new) (I.view input.old) }
 {
     let units = input.eof_offset();
@@ -83,12 +90,44 @@ pub fn operand_step<
             }
             let above = Open {
                 operator: Operator::Prefix(fold),
-                call: calls.present,
+                call: *call,
             };
-            match calls.interrupt(above, Some(power), behind) {
+            match interrupt(call, operators, above, Some(power), behind) {
                 Ok(()) => Ok(None),
                 Err(()) => Err(E::no_memory(input)),
             }
+        }
+    }
+}
+
+/// Parses an operand after any number of prefixes, which are then open.
+#[inline(always)]
+pub fn operand_with_prefixes<
+    I: Stream,
+    O: Drop,
+    E: ParserError<I>,
+    F: Drop,
+    H: Drop,
+    P: Parser<I, First<O, F>, E>,
+    A: Allocator,
+>(
+    first: &mut P,
+    call: &mut Call,
+    operators: &mut Vec<Open<O, F, H>, A>,
+    input: &mut I,
+) -> Result<O, E>
+    requires { P.can_parse first.old }
+    ensures again { P.can_parse first.new }
+    ensures ran { PrefixedOperand I.reading.units (Ran I.reading P.does E.form) (assert_kind E.form)
+        (calls_of call.old operators.old.items) (P.state first.old) (I.view input.old)
+        (answer_by E.kind result) (calls_of call.new operators.new.items) (P.state first.new)
+        (I.view input.new) }
+    ensures ends { IsEndOf I.reading (I.view input.new) (I.view input.old) }
+{
+    'prefixes: loop {
+        match operand_step(first, call, operators, input)? {
+            Some(value) => return Ok(value),
+            None => continue 'prefixes,
         }
     }
 }
@@ -103,22 +142,29 @@ pub fn turn_step<
     H: Drop,
     Q: Parser<I, Next<G, H>, E>,
     A: Allocator,
->(next: &mut Q, calls: &mut Calls<O, F, H, A>, left: O, input: &mut I) -> Result<Turn<O>, E>
+>(
+    next: &mut Q,
+    call: &mut Call,
+    operators: &mut Vec<Open<O, F, H>, A>,
+    left: O,
+    input: &mut I,
+) -> Result<Turn<O>, E>
     requires { Q.can_parse next.old }
     ensures again { Q.can_parse next.new }
     ensures ran { TurnStep I.reading.units (Ran I.reading Q.does E.form) (G.folds E.form)
-        (assert_kind E.form) (calls_of calls.old) left (Q.state next.old) (I.view input.old)
-        (answer_by E.kind result) (calls_of calls.new) (Q.state next.new) (I.view input.new) }
+        (assert_kind E.form) (calls_of call.old operators.old.items) left (Q.state next.old)
+        (I.view input.old) (answer_by E.kind result) (calls_of call.new operators.new.items)
+        (Q.state next.new) (I.view input.new) }
     ensures ends { IsEndOf I.reading (I.view input.new) (I.view input.old) }
 {
     let start = input.checkpoint();
     let units = input.eof_offset();
     match next.parse_next(input)? {
         Next::Nothing => Ok(Turn::Ends(left)),
-        Next::Postfix(power, fold) => {
-            postfix_turn(&calls.present, power, fold, &start, units, left, input)
+        Next::Postfix(power, fold) => postfix_turn(call, power, fold, &start, units, left, input),
+        Next::Infix(operator) => {
+            infix_turn(operator, &start, units, call, operators, left, input)
         }
-        Next::Infix(operator) => infix_turn(operator, &start, units, calls, left, input),
     }
 }
 
@@ -153,33 +199,34 @@ fn infix_turn<I: Stream, O: Drop, E: ParserError<I>, F: Drop, H: Drop, A: Alloca
     operator: Infix<H>,
     start: &I::Checkpoint,
     units: usize,
-    calls: &mut Calls<O, F, H, A>,
+    call: &mut Call,
+    operators: &mut Vec<Open<O, F, H>, A>,
     left: O,
     input: &mut I,
 ) -> Result<Turn<O>, E>
     ensures ran { InfixTurn I.reading.units (assert_kind E.form) operator (I.seen start.now)
-        units (calls_of calls.old) left (I.view input.old)
-        (answer_by E.kind result) (calls_of calls.new) (I.view input.new) }
+        units (calls_of call.old operators.old.items) left (I.view input.old)
+        (answer_by E.kind result) (calls_of call.new operators.new.items) (I.view input.new) }
     ensures ends { EndsToo I.reading (I.seen start.now) (I.view input.old) (I.view input.new) }
 {
     let binding = operator.binding();
-    if calls.present.is_above(binding.left) {
+    if call.is_above(binding.left) {
         input.reset(start);
         return Ok(Turn::Ends(left));
     }
-    if calls.present.has_neither(binding.left) {
+    if call.has_neither(binding.left) {
         input.reset(start);
         return Ok(Turn::EndsAll(left));
     }
     let behind = input.eof_offset();
-    if behind == calls.present.began {
+    if behind == call.began {
         return Err(E::assert(input, "a call must consume before an infix"));
     }
     let above = Open {
         operator: Operator::Infix(left, binding.fold),
-        call: calls.present.behind(units, binding.neither),
+        call: call.behind(units, binding.neither),
     };
-    match calls.interrupt(above, binding.right, behind) {
+    match interrupt(call, operators, above, binding.right, behind) {
         Ok(()) => Ok(Turn::Interrupted),
         Err(()) => Err(E::no_memory(input)),
     }
@@ -232,36 +279,28 @@ pub fn expression_from<
     ensures ends { IsEndOf I.reading (I.view input.new) (I.view input.old) }
 {
     let units = input.eof_offset();
-    let mut calls = Calls {
-        present: Call::new(Some(level), units),
-        open: Vec::new(alloc),
-    };
-    let mut left: Option<O> = None;
-    'places: loop {
-        match left {
-            None => {
-                left = operand_step(first, &mut calls, input)?;
-                continue 'places;
+    let mut call = Call::new(Some(level), units);
+    let mut operators = Vec::new(alloc);
+    let mut left = operand_with_prefixes(first, &mut call, &mut operators, input)?;
+    'turns: loop {
+        match turn_step(next, &mut call, &mut operators, left, input)? {
+            Turn::Goes(value) => {
+                left = value;
+                continue 'turns;
             }
-            Some(value) => match turn_step(next, &mut calls, value, input)? {
-                Turn::Goes(value) => {
-                    left = Some(value);
-                    continue 'places;
+            Turn::Interrupted => {
+                left = operand_with_prefixes(first, &mut call, &mut operators, input)?;
+                continue 'turns;
+            }
+            Turn::Ends(value) => match operators.pop() {
+                Some(above) => {
+                    call = above.call;
+                    left = close(above.operator, above.call.turn, value, input)?;
+                    continue 'turns;
                 }
-                Turn::Interrupted => {
-                    left = None;
-                    continue 'places;
-                }
-                Turn::Ends(value) => match calls.open.pop() {
-                    Some(above) => {
-                        calls.present = above.call;
-                        left = Some(close(above.operator, above.call.turn, value, input)?);
-                        continue 'places;
-                    }
-                    None => return Ok(value),
-                },
-                Turn::EndsAll(value) => return end_all(calls.open, value, input),
+                None => return Ok(value),
             },
+            Turn::EndsAll(value) => return end_all(operators, value, input),
         }
     }
 }

@@ -1,5 +1,5 @@
 use Rattle.parser_definitions.specs.Does.{Ran}
-use Rattle.std.proofs.Common.{reverse}
+use Rattle.std.proofs.Common.{Some, reverse}
 use Rattle.winnow_expression.specs.Grammar.{folding, grammar}
 use Rattle.streams.specs.Input.{IsEndOf}
 use Rattle.stream_errors.specs.Form.{assert_kind}
@@ -8,8 +8,8 @@ use Rattle.winnow_expression.specs.Calls.{call_at, call_of, calls_of, opens_of}
 use Rattle.winnow_expression.proofs.Loop.{Invariant, rank}
 use Rattle.winnow_expression.proofs.combinator.machine.expression_from.Given as goal
 
-abbrev pub invariant-places : goal.invariant-places
-invariant-places g l =
+abbrev pub invariant-turns : goal.invariant-turns
+invariant-turns g l =
     Invariant (grammar (Ran g.I.Stream.reading g.P.Parser.does g.E.HasKind.form)
     (Ran g.I.Stream.reading g.Q.Parser.does g.E.HasKind.form)
     (g.G.FoldUnary.folds g.E.HasKind.form)
@@ -18,12 +18,12 @@ invariant-places g l =
     (assert_kind g.E.HasKind.form)))
     (call_at l.fn.level (units_left g.I.Stream.reading.units (g.I.Stream.view l.fn.input)))
     (g.P.Parser.state l.fn.first, g.Q.Parser.state l.fn.next) (g.I.Stream.view l.fn.input)
-    (calls_of l.calls) l.left (g.P.Parser.state l.first, g.Q.Parser.state l.next)
-    (g.I.Stream.view l.input)
+    (calls_of l.call l.operators.items) (Some l.left)
+    (g.P.Parser.state l.first, g.Q.Parser.state l.next) (g.I.Stream.view l.input)
     × IsEndOf g.I.Stream.reading (g.I.Stream.view l.input) (g.I.Stream.view l.fn.input)
     × g.P.Parser.can_parse l.first × g.Q.Parser.can_parse l.next
 
-abbrev pub decreases-places : goal.decreases-places
-decreases-places g l =
-    rank (units_left g.I.Stream.reading.units (g.I.Stream.view l.input)) (call_of l.calls.present)
-    (reverse (opens_of l.calls.open.items)) l.left
+abbrev pub decreases-turns : goal.decreases-turns
+decreases-turns g l =
+    rank (units_left g.I.Stream.reading.units (g.I.Stream.view l.input)) (call_of l.call)
+    (reverse (opens_of l.operators.items)) (Some l.left)
