@@ -32,4 +32,4 @@ if __name__ == "__main__":
     write_classes()
     write_integers()
     write_chosen()
-    print("stream_sets grammars", *CRATES_OF_PARSERS)
+    print("stream_sets grammars parser_definitions", *CRATES_OF_PARSERS)
