@@ -32,9 +32,9 @@
 
 /* The version of this header: the last release, possibly with later changes. */
 #define PERGIDAU_VERSION_MAJOR 0
-#define PERGIDAU_VERSION_MINOR 1
+#define PERGIDAU_VERSION_MINOR 2
 #define PERGIDAU_VERSION_PATCH 0
-#define PERGIDAU_VERSION "0.1.0"
+#define PERGIDAU_VERSION "0.2.0"
 
 /*
  * The number of the ABI. A program runs with each library of this number that is not older
