@@ -62,7 +62,10 @@ const BROKEN: [&str; 11] = [
 ];
 
 /// Runs a tuple of the first `count` letters on all of them, and on each text with an `x` among them.
-fn letters<'i, O, P: Parser<&'i str, O, Modal>>(rt: &impl Abort, count: usize, mut parser: P) {
+fn letters<'i, O: Drop, P>(rt: &impl Abort, count: usize, mut parser: P)
+where
+    P: Parser<&'i str, O, Modal> + Drop,
+{
     let mut input = "abcdefghijk;";
     assert!(rt; parser.parse_next(&mut input).is_ok(), "{}", count);
     assert_eq!(rt; input.len(), 12 - count);
