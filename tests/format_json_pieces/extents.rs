@@ -139,20 +139,21 @@ fn compare(rt: &impl Abort, alloc: Global, level: usize, bytes: &[u8]) {
     }
 }
 
+/// Each document at each level, and with each of its bytes changed into a third of the others.
 #[test]
 fn extent_agrees_with_the_walk(rt: HostRuntime) {
     for bytes in DOCUMENTS {
         for level in 0..=DEPTH {
             compare(&rt, rt.alloc(), level, bytes);
-            let mut changed = Vec::new(rt.alloc());
-            assert!(rt; changed.extend_from_slice(bytes).is_ok());
-            for index in 0..bytes.len() {
-                for byte in OTHERS {
-                    changed[index] = *byte;
-                    compare(&rt, rt.alloc(), level, &changed);
-                }
-                changed[index] = bytes[index];
+        }
+        let mut changed = Vec::new(rt.alloc());
+        assert!(rt; changed.extend_from_slice(bytes).is_ok());
+        for index in 0..bytes.len() {
+            for byte in OTHERS.iter().skip(index % 3).step_by(3) {
+                changed[index] = *byte;
+                compare(&rt, rt.alloc(), DEPTH, &changed);
             }
+            changed[index] = bytes[index];
         }
     }
 }
