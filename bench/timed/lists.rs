@@ -46,7 +46,8 @@ type Lists = Vec<Vec<u32, Global>, Global>;
 
 /// Lists of numbers, with line feeds between them.
 fn lists<'i>(alloc: Global, input: &mut &'i [u8]) -> Result<Lists, ErrMode<InputError<&'i [u8]>>> {
-    let list = separated(alloc, 1.., DecUint, b',');
+    let number = DecUint.map(|number: u32| number);
+    let list = separated(alloc, 1.., number, b',').map(|list: Vec<u32, Global>| list);
     separated(alloc, 0.., list, b'\n').parse_next(input)
 }
 

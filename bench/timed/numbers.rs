@@ -12,7 +12,7 @@ fn list<'i>(
     alloc: Global,
     input: &mut &'i [u8],
 ) -> Result<Vec<u32, Global>, ErrMode<InputError<&'i [u8]>>> {
-    separated(alloc, 0.., DecUint, b',').parse_next(input)
+    separated(alloc, 0.., DecUint.map(|number: u32| number), b',').parse_next(input)
 }
 
 /// Parses a list of numbers. `out` stays zero if an allocation fails.
