@@ -109,7 +109,7 @@ impl<O: Drop, A: Allocator> Accumulate<O, A> for Vec<O, A> {
 /// ```
 /// let list: Result<Vec<u8>, EmptyError> =
 ///     separated(alloc, Range::from(0..), Digit1, b',').parse_next(&mut b"1,23".as_slice());
-/// assert!(rt; matches!(list, Ok(list) if list.as_slice() == b"123"));
+/// assert!(rt; matches!(list, Ok(list) if list.as_slice() == b"123".as_slice()));
 /// ```
 impl<'i, T: Copy + Drop, A: Allocator> Accumulate<&'i [T], A> for Vec<T, A> {
     ghost accumulator = { slices_kept };
