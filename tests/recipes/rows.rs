@@ -18,7 +18,7 @@ where
     E: ParserError<I>,
     A: Allocator + Copy,
 {
-    separated(alloc, 0.., DecUint, ',').parse_next(input)
+    separated(alloc, 0.., DecUint.map(|number: u32| number), ',').parse_next(input)
 }
 
 /// Reads numbers with commas between them, and one more comma or none.

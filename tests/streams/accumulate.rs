@@ -23,9 +23,10 @@ fn accumulate_into_a_number(rt: HostRuntime) -> Result<(), Fail> {
 #[test]
 fn accumulate_from_any_capacity(rt: HostRuntime) -> Result<(), Fail> {
     for capacity in [None, Some(0), Some(1), Some(usize::MAX)] {
-        let mut list: Vec<char> = Accumulate::initial(rt.alloc(), capacity)?;
+        let mut list: Vec<char> = Accumulate::<char, Global>::initial(rt.alloc(), capacity)?;
         list.accumulate('a')?;
-        assert_eq!(rt; list.as_slice(), ['a'].as_slice());
+        list.accumulate(['b', 'c'].as_slice())?;
+        assert_eq!(rt; list.as_slice(), ['a', 'b', 'c'].as_slice());
         let mut text: String = Accumulate::<char, Global>::initial(rt.alloc(), capacity)?;
         text.accumulate('é')?;
         text.accumulate("ab")?;

@@ -18,7 +18,7 @@ where
     E: ParserError<I>,
     A: Allocator + Copy,
 {
-    separated(alloc, 1.., DecUint, ',').parse_next(input)
+    separated(alloc, 1.., DecUint.map(|number: u32| number), ',').parse_next(input)
 }
 
 /// Reads settings, a line each, over any stream of text.
@@ -43,7 +43,7 @@ where
     E: ParserError<I>,
     A: Allocator + Copy,
 {
-    let numbers = separated(alloc, 0.., DecUint, b',');
+    let numbers = separated(alloc, 0.., DecUint.map(|number: u64| number), b',');
     delimited(b'[', numbers, b']').parse_next(input)
 }
 
