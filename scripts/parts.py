@@ -10,7 +10,7 @@ PARTS = {
     "text": ["winnow_ascii", "winnow_numbers"],
     "escapes": ["winnow_escapes"],
     "binary": ["winnow_integers", "winnow_binary"],
-    "bits": ["stream_bits", "winnow_bits"],
+    "bits": ["winnow_bits"],
     "expressions": ["winnow_expression"],
     "recovery": ["stream_recovery", "winnow_recovery"],
     "laws": ["winnow_expression_trees"],
