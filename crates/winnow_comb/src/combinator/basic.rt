@@ -1,9 +1,8 @@
 //! Combinators of one parser, and parsers that consume no input.
-ghost use Rattle.std.specs.Prelude.{◌≡◌};
+ghost use Rattle.parser_definitions.specs.Does.{Ran};
+ghost use Rattle.parser_definitions.specs.Eof.{EmptyDoes, FailDoes};
+ghost use Rattle.std.specs.Prelude.{⊤, ◌≡◌};
 ghost use Rattle.stream_errors.specs.Form.{answer_by};
-ghost use Rattle.streams.specs.Input.{IsEndOf};
-ghost use Rattle.winnow_comb.specs.Empty.{EmptyRuns};
-ghost use Rattle.winnow_comb.specs.Fail.{FailRuns};
 
 use crate::combinator::impls::{BacktrackErr, Cond, CutErr, Not, Opt, Peek};
 use std::marker::PhantomData;
@@ -157,9 +156,8 @@ pub fn backtrack_err<Input, Output, Error, ParseNext>(
 /// ```
 #[inline(always)]
 pub fn empty<Input: Stream, Error: ParserError<Input>>(_input: &mut Input) -> Result<(), Error>
-    ensures ran { EmptyRuns (Input.view _input.old) (answer_by Error.kind result)
-        (Input.view _input.new) }
-    ensures ends { IsEndOf Input.reading (Input.view _input.new) (Input.view _input.old) }
+    ensures ran { Ran {S = ⊤} Input.reading EmptyDoes Error.form tt (Input.view _input.old)
+        (answer_by Error.kind result) tt (Input.view _input.new) }
 {
     Ok(())
 }
@@ -176,9 +174,8 @@ pub fn empty<Input: Stream, Error: ParserError<Input>>(_input: &mut Input) -> Re
 pub fn fail<Input: Stream, Output, Error: ParserError<Input>>(
     input: &mut Input,
 ) -> Result<Output, Error>
-    ensures ran { FailRuns (Input.view input.old) (answer_by Error.kind result)
-        (Input.view input.new) }
-    ensures ends { IsEndOf Input.reading (Input.view input.new) (Input.view input.old) }
+    ensures ran { Ran {S = ⊤} Input.reading FailDoes Error.form tt (Input.view input.old)
+        (answer_by Error.kind result) tt (Input.view input.new) }
 {
     Err(Error::from_input(input))
 }
