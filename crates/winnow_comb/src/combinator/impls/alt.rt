@@ -1,10 +1,10 @@
 //! Choices: their branches, and their parser.
-ghost use Rattle.std.specs.Prelude.{⊤, ◌≡◌};
+ghost use Rattle.std.specs.Prelude.{⊤, ◌≡◌, Err, MatchOption};
 ghost use Rattle.stream_errors.specs.Form.{answer_by};
-ghost use Rattle.streams.specs.Input.{IsEndOf};
+ghost use Rattle.streams.specs.Input.{Input, IsEndOf, back_at};
+ghost use Rattle.streams.specs.Kind.{backtrack};
 ghost use Rattle.parser_definitions.specs.Does.{Ran};
 ghost use Rattle.parser_definitions.specs.Outcome.{Does};
-ghost use Rattle.winnow_comb.specs.Attempt.{AttemptRuns};
 ghost use Rattle.parser_definitions.specs.Terms.{MeetsTerms, Terms};
 
 mod slices;
@@ -94,9 +94,13 @@ pub(crate) fn attempt<I: Stream, O, E: ParserError<I>, P: Parser<I, O, E>>(
     requires callable { P.can_parse branch.old }
     requires starts { I.seen start.now ≡ (I.view input.old).left }
     ensures again { P.can_parse branch.new }
-    ensures ran { AttemptRuns E.kind (Ran I.reading P.does E.form) (I.seen start.now)
-        (P.state branch.old)
-        (I.view input.old) result (P.state branch.new) (I.view input.new) }
+    ensures ran { MatchOption result
+        ((end : Input I.Seen) × Ran I.reading P.does E.form (P.state branch.old)
+        (I.view input.old) (Err backtrack) (P.state branch.new) end
+        × (I.view input.new ≡ back_at (I.seen start.now) end))
+        (λ answer. Ran I.reading P.does E.form (P.state branch.old) (I.view input.old)
+        (answer_by E.kind answer) (P.state branch.new) (I.view input.new)
+        × (answer_by E.kind answer ≡ Err backtrack → ⊥)) }
     ensures ends { IsEndOf I.reading (I.view input.new) (I.view input.old) }
 {
     match branch.parse_next(input) {
