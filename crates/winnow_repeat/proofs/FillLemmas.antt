@@ -1,89 +1,80 @@
--- Invariants of the loop that fills a buffer.
-use Rattle.std.proofs.Common.{◌≡◌, ◌<◌, ◌+◌, ◌∙◌, ℕ, List, [], ◌∷◌, ◌++◌, length, Ok, Err, refl}
-use Rattle.std.proofs.Common.{sym, ap, inr, arith, get_or, append_assoc, length-append}
+-- The loop that fills a buffer.
 use Rattle.std.specs.Prelude.{slice_set}
-use Rattle.std.proofs.lemmas.List.{length_push}
-use Rattle.streams.specs.Input.{Input}
+use Rattle.std.proofs.Common.{◌≡◌, ◌<◌, ◌+◌, ℕ, List, length, Ok, Err, refl, ap, inl, inr}
+use Rattle.streams.specs.Input.{Input, is_end_of_refl}
 use Rattle.streams.specs.Kind.{Kind}
-use Rattle.winnow_core.specs.Runs.{Runs}
-use Rattle.winnow_repeat.specs.Chain.{Successes}
-use Rattle.winnow_repeat.specs.Fill.{FillsElements}
-use Rattle.winnow_repeat.proofs.RepeatLemmas.{successes_more, successes_none}
-use Rattle.winnow_core.specs.Elements.{rest_of, set_at}
+use Rattle.streams.specs.Reading.{Reading}
+use Rattle.stream_errors.specs.Form.{ErrorForm}
+use Rattle.parser_definitions.specs.Does.{Ran}
+use Rattle.parser_definitions.specs.Fill.{FillDoes, FillTurn, fills}
+use Rattle.parser_definitions.specs.Left.{left_of}
+use Rattle.parser_definitions.specs.Loop.{continues, last_comes, returns}
+use Rattle.parser_definitions.specs.Outcome.{Does, outcome_of, setting_of, took}
+use Rattle.parser_definitions.specs.Then.Steps.{instead, with_first}
+use Rattle.winnow_core.specs.Covers.{failed}
+use Rattle.winnow_repeat.specs.Called.{there}
+use Rattle.winnow_repeat.specs.Fill.{Buffer, buffer_of}
+use Rattle.winnow_repeat.specs.Loops.{Reached, reached_last, reached_more, reached_none}
+use Rattle.winnow_repeat.specs.Loops.{set_overwrites}
 
--- The first k elements are outputs, and the others are as they were.
-pub record Filled {S T O : Type 0} (run : Runs S T O) (orig now : List O) (s : S) (i : Input T)
-    (u : S) (m : Input T) (k : ℕ) : Type 0 where
-  pub outputs : List O
-  pub before : List O
-  pub rest : List O
-  pub chain : Successes run s i outputs u m
-  pub count : length outputs ≡ k
-  pub same_count : length before ≡ length outputs
-  pub old : orig ≡ before ++ rest
-  pub new : now ≡ outputs ++ rest
+module _ {S T L O : Type 0} (reading : Reading T L) (does : Does S T O) (form : ErrorForm)
+    (old : List O) (s : S) (i : Input T) where
+  -- the first `n` elements are overwritten, whichever reference it is
+  abbrev pub Filled : List O → ℕ → S → Input T → Type 0
+  Filled now n u m = (name : ℕ)
+      → Reached reading (FillTurn does) form 0 (s, buffer_of name old) i n (u, buffer_of name now) m
 
-pub filled_none : {S T O : Type 0} (run : Runs S T O) (buffer : List O) (s : S) (i : Input T)
-    → Filled run buffer buffer s i s i 0
-filled_none run buffer s i = record {
-  outputs = [];
-  before = [];
-  rest = buffer;
-  chain = successes_none run s i;
-  count = refl;
-  same_count = refl;
-  old = refl;
-  new = refl;
-}
+  pub filled_none : Filled old 0 s i
+  filled_none name = reached_none reading (FillTurn does) form 0 (s, buffer_of name old) i
 
-module _ {S T O : Type 0} (run : Runs S T O) (orig now : List O) (s : S) (i : Input T) (u : S)
-    (m : Input T) (k : ℕ) (p : Filled run orig now s i u m k) where
-  -- an element more
-  pub filled_more : (d o : O) (v : S) (n : Input T) → k < length now → run u m (Ok o) v n
-      → Filled run orig (slice_set now k o) s i v n (k + 1)
-  filled_more d o v n within r =
-      let (tail, is) =
-      rest_of p.outputs p.rest now k (get_or now k d) d p.count p.new within refl in
-      let split : now ≡ p.outputs ++ get_or now k d ∷ tail =
-      p.new ∙ ap (λ l. p.outputs ++ l) is in
-      record {
-        outputs = p.outputs ++ o ∷ [];
-        before = p.before ++ get_or now k d ∷ [];
-        rest = tail;
-        chain = successes_more p.chain r;
-        count = length_push p.outputs o ∙ ap (λ x. x + 1) p.count;
-        same_count = length_push p.before (get_or now k d) ∙ ap (λ x. x + 1) p.same_count
-            ∙ sym (length_push p.outputs o);
-        old = p.old ∙ ap (λ l. p.before ++ l) is
-            ∙ sym (append_assoc p.before (get_or now k d ∷ []) tail);
-        new = set_at p.outputs tail now k (get_or now k d) o p.count split
-            ∙ sym (append_assoc p.outputs (o ∷ []) tail);
-      }
+  module _ (now : List O) (n : ℕ) (u : S) (m : Input T) (so : Filled now n u m) (name : ℕ) where
+    -- all are
+    pub filled_ran : length now ≡ n
+        → Ran reading (FillDoes does) form (s, buffer_of name old) i (Ok tt)
+        (u, buffer_of name now) m
+    filled_ran all =
+        reached_last reading (FillTurn does) form 0 (s, buffer_of name old) i n
+        (u, buffer_of name now) m (so name) (Ok tt) (u, buffer_of name now) m
+        (is_end_of_refl reading m)
+        (took (returns tt) ((u, buffer_of name now), left_of m), inl (all, refl), refl)
 
-  -- the run for the next element fails
-  pub filled_to : (e : Kind) (v : S) (n : Input T) → k < length now → run u m (Err e) v n
-      → FillsElements run orig s i (Err e) now v n
-  filled_to e v n within r = (
-    p.outputs,
-    p.before,
-    p.rest,
-    u,
-    m,
-    p.chain,
-    p.same_count,
-    p.old,
-    p.new,
-    inr (
-      e,
-      (λ none. omega (
-        arith,
-        within,
-        p.count,
-        ap (λ l. length l) p.new,
-        ap (λ l. length l) none,
-        length-append p.outputs p.rest,
-      )),
-      r,
-      refl,
-    ),
-  )
+    module _ (less : n < length now) (v : S) (x : Input T) where
+      -- the call for the next fails
+      pub unfilled_ran : (k : Kind) → Ran reading does form u m (Err k) v x
+          → Ran reading (FillDoes does) form (s, buffer_of name old) i (Err k)
+          (v, buffer_of name now) x
+      unfilled_ran k ran =
+          let q : S × Buffer O = (u, buffer_of name now) in
+          let t : S × Buffer O = (v, buffer_of name now) in
+          let at = setting_of form i in
+          reached_last reading (FillTurn does) form 0 (s, buffer_of name old) i n q m (so name)
+          (Err k) t x ran.0 (
+            outcome_of (Err k) (t, left_of x),
+            inr (
+              less,
+              (
+                outcome_of (Err k) (v, left_of x),
+                there reading does form i m u (Err k) v x (so name).ends ran,
+                failed with_first (λ o. fills n o) at q (left_of m) k (left_of x) v t (Err k) refl
+                    refl,
+              ),
+            ),
+            failed instead last_comes at q (left_of m) k (left_of x) t t (Err k) refl refl,
+          )
+
+      -- it succeeds
+      pub filled_more : (o : O) → Ran reading does form u m (Ok o) v x
+          → Reached reading (FillTurn does) form 0 (s, buffer_of name old) i (n + 1)
+          (v, buffer_of name (slice_set now n o)) x
+      filled_more o ran =
+          reached_more reading (FillTurn does) form 0 (s, buffer_of name old) i n
+          (u, buffer_of name now) m (so name) (n + 1) (v, buffer_of name (slice_set now n o)) x
+          ran.0 (inr (
+            less,
+            (
+              took o (v, left_of x),
+              there reading does form i m u (Ok o) v x (so name).ends ran,
+              ap (λ l. took (continues (n + 1)) ((v, buffer_of name l), left_of x))
+                  (set_overwrites now n o),
+            ),
+          ))

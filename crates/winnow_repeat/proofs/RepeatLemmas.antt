@@ -1,11 +1,8 @@
--- Invariants of the loop that repeats items.
-use Rattle.std.proofs.Common.{◌≡◌, ◌≤◌, ℕ, List, [], ◌∷◌, ◌++◌}
-use Rattle.std.proofs.Common.{length, Option}
-use Rattle.std.proofs.Common.{Some, None, Ok, refl, subst, inl, inr, arith}
-use Rattle.std.proofs.lemmas.Fn.{FoldsTo-push}
+-- Calls of a repetition as often as a range says.
+use Rattle.std.proofs.Common.{◌≡◌, ◌≤◌, ℕ, List, [], ◌∷◌, length, Option, Some, None, refl, subst}
+use Rattle.std.proofs.Common.{inl, inr, arith}
 use Rattle.streams.specs.Input.{Input}
 use Rattle.streams.specs.Reading.{Reading}
-use Rattle.winnow_core.specs.Runs.{Runs}
 use Rattle.stream_sets.specs.Range.{bounds_of, from_to}
 use Rattle.stream_sets.specs.declared.range.Range.{Range}
 use Rattle.stream_errors.specs.Form.{Answer, ErrorForm}
@@ -15,24 +12,7 @@ use Rattle.parser_definitions.specs.Outcome.{Does}
 use Rattle.parser_definitions.specs.Repeat.{Many, OneOrMore, RepeatDoes}
 use Rattle.parser_definitions.specs.Then.Steps.{first, instead, same, with_first}
 use Rattle.winnow_repeat.specs.Called.Parts.{IsPart, gathers_part, many_ran, one_ran}
-use Rattle.winnow_repeat.specs.Chain.{IsSuccess, Successes}
 use Rattle.stream_sets.specs.Accumulator.{Accumulator}
-
-pub successes_none : {S T O : Type 0} (run : Runs S T O) (s : S) (i : Input T)
-    → Successes run s i [] s i
-successes_none run s i = record { runs = refl }
-
-pub successes_more : {S T O : Type 0} {run : Runs S T O} {s : S} {i : Input T}
-    {outputs : List O} {t : S} {j : Input T} {o : O} {u : S} {k : Input T}
-    → Successes run s i outputs t j → run t j (Ok o) u k
-    → Successes run s i (outputs ++ (o ∷ [])) u k
-successes_more {run = run} {s = s} {i = i} {outputs = outputs} {t = t} {j = j} {o = o} {u = u}
-    {k = k} c r = record {
-      runs = FoldsTo-push (λ p x q. IsSuccess run p x q) (s, i) outputs (t, j) o (u, k)
-          c.runs r;
-    }
-
--- ---- calls of a repetition as often as a range says
 
 module _ {S T L O C : Type 0} (reading : Reading T L) (into : Accumulator C O) (does : Does S T O)
     (form : ErrorForm) (range : Range) (s : S) (i : Input T) (a : Answer C) (t : S)

@@ -28,7 +28,7 @@ use Rattle.parser_definitions.specs.Threes.{one_of, two_of, with_one, with_two}
 use Rattle.winnow_core.specs.Covers.{failed}
 use Rattle.winnow_repeat.specs.Called.{there}
 use Rattle.winnow_repeat.specs.Called.Parts.{IsPart, gathers_part, items_ran}
-use Rattle.winnow_repeat.specs.Covers.{misuse}
+use Rattle.winnow_repeat.specs.Turns.{misuse}
 
 module _ {S W Q T L C O D : Type 0} (reading : Reading T L) (get : Q → S) (put : Q → S → Q)
     (pick : Q → W) (keep : Q → W → Q) (f : Folding Q C O) (does : Does S T O) (till : Does W T D)

@@ -18,7 +18,7 @@ use Rattle.parser_definitions.specs.Outcome.{Does, Outcome, Setting, asks, backs
 use Rattle.parser_definitions.specs.Outcome.{took, wants}
 use Rattle.parser_definitions.specs.Repeat.{RepeatDoes, Repeated}
 use Rattle.parser_definitions.specs.Then.Steps.{first, with_first}
-use Rattle.winnow_repeat.specs.Covers.{AddsItem, LastTurn}
+use Rattle.winnow_repeat.specs.Turns.{AddsItem, LastTurn}
 use Rattle.winnow_repeat.specs.RepeatLaws.{EndsOnceAUnit, RunsAtMostOnceAUnit}
 use Rattle.winnow_repeat.proofs.RepeatLemmas.{length-units}
 

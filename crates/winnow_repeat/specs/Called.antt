@@ -18,8 +18,8 @@ use Rattle.parser_definitions.specs.Repeat.{OneOrMore}
 use Rattle.parser_definitions.specs.RepeatTill.{Every}
 use Rattle.parser_definitions.specs.Then.Steps.{instead, takes}
 use Rattle.winnow_core.specs.Covers.{at_setting, failed}
-use Rattle.winnow_repeat.specs.Covers.{LastTurn, ends_enough, ends_failed, ends_full}
-use Rattle.winnow_repeat.specs.Covers.{ends_rejected, ends_stuck, ends_wanting}
+use Rattle.winnow_repeat.specs.Turns.{LastTurn, ends_enough, ends_failed, ends_full}
+use Rattle.winnow_repeat.specs.Turns.{ends_rejected, ends_stuck, ends_wanting}
 pub mod Parts
 
 -- what a call does where another ended, in the setting of the first

@@ -9,7 +9,7 @@ use Rattle.parser_definitions.specs.Folding.{gathering}
 use Rattle.parser_definitions.specs.Left.{End, Left}
 use Rattle.parser_definitions.specs.Outcome.{Does, Outcome, Setting, wants}
 use Rattle.parser_definitions.specs.Then.Steps.{first, with_first}
-use Rattle.winnow_repeat.specs.Covers.{AddsItem, LastTurn}
+use Rattle.winnow_repeat.specs.Turns.{AddsItem, LastTurn}
 
 -- Consecutive items, and the call that ended them and gave the outcome: there is no greatest
 -- number, so there is one call more. The number of calls is at most one more than the number of

@@ -5,9 +5,8 @@ use Rattle.std.proofs.Common.{sym, subst, inl, inr}
 use Rattle.std.proofs.lemmas.Fn.{FoldsTo-push}
 use Rattle.streams.specs.Input.{Input, back_at}
 use Rattle.streams.specs.Kind.{Kind, backtrack}
-use Rattle.winnow_core.specs.Chain.{Items}
+use Rattle.winnow_core.specs.Chain.{IsItem, Items}
 use Rattle.winnow_core.specs.Runs.{Runs}
-use Rattle.winnow_repeat.specs.Chain.{IsItem}
 use Rattle.winnow_repeat.specs.Iterator.{IteratorNext, IteratorState, IteratorStops, IteratorStatus}
 use Rattle.winnow_repeat.specs.Iterator.{done, finish_answer, running, stopped}
 

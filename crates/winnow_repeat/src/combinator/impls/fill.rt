@@ -1,10 +1,9 @@
 //! A buffer that is filled.
 ghost use Rattle.parser_definitions.specs.Does.{Ran};
 ghost use Rattle.stream_errors.specs.Form.{answer_by};
-ghost use Rattle.streams.specs.Input.{IsEndOf};
-ghost use Rattle.winnow_repeat.specs.Fill.{FillsElements, fill_buffer};
+ghost use Rattle.winnow_repeat.specs.Fill.{buffer_of, fill_buffer};
 ghost use Rattle.parser_definitions.specs.Terms.{no_claim, nothing_claimed};
-ghost use Rattle.std.specs.Prelude.{◌≡◌};
+ghost use Rattle.std.specs.Prelude.{◌≡◌, ℕ};
 ghost use Rattle.parser_definitions.specs.Fill.{Buffer, FillDoes, fill_law};
 
 use std::marker::PhantomData;
@@ -61,10 +60,9 @@ fn fill_each<P: Parser<I, O, E>, I: Stream, O: Drop, E: ParserError<I>>(
 ) -> Result<(), E>
     requires { P.can_parse parser.old }
     ensures again { P.can_parse parser.new }
-    ensures ran { FillsElements (Ran I.reading P.does E.form) buffer.old (P.state parser.old)
-        (I.view input.old) (answer_by E.kind result) buffer.new (P.state parser.new)
-        (I.view input.new) }
-    ensures ends { IsEndOf I.reading (I.view input.new) (I.view input.old) }
+    ensures ran { (name : ℕ) → Ran I.reading (FillDoes P.does) E.form
+        (P.state parser.old, buffer_of name buffer.old) (I.view input.old) (answer_by E.kind result)
+        (P.state parser.new, buffer_of name buffer.new) (I.view input.new) }
 {
     for k in 0..buffer.len() {
         match parser.parse_next(input) {

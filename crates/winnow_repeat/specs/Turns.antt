@@ -1,25 +1,20 @@
--- Items of a covered child, and last turns of their repetition.
-use Rattle.std.specs.Prelude.{◌≡◌, ◌<◌, ◌≤◌, ℕ, length, Option, Some}
-use Rattle.std.specs.Prelude.{None, Ok, Err}
-use Rattle.std.proofs.Common.{refl, ap, ◌∙◌, inl, inr, arith}
-use Rattle.streams.specs.Input.{Input}
+-- Turns of a repetition: the items that it adds, and its last turn.
+use Rattle.std.specs.Prelude.{◌≡◌, ◌<◌, ◌≤◌, ℕ, Option, Some, None, Ok, Err}
+use Rattle.std.proofs.Common.{refl, ap, ◌∙◌, inl, inr}
 use Rattle.streams.specs.Kind.{Kind, backtrack, cut, incomplete, memory}
 use Rattle.stream_errors.specs.Form.{Answer, ErrorForm, assert_kind, modal, plain}
 use Rattle.stream_sets.specs.Range.{Bounds, IsBelow}
-use Rattle.winnow_core.specs.Covers.{At, Covers, failed, gave}
-use Rattle.winnow_core.specs.Runs.{Runs}
-use Rattle.parser_definitions.specs.Consumes.{Item, by_consuming}
+use Rattle.winnow_core.specs.Covers.{failed, gave}
 use Rattle.parser_definitions.specs.Folding.{Folding}
-use Rattle.parser_definitions.specs.Items.{Items, ItemsTurn, items_next}
-use Rattle.parser_definitions.specs.Left.{End, Left, back, left_of}
-use Rattle.parser_definitions.specs.Loop.{Turn, last, last_comes, last_turn}
-use Rattle.parser_definitions.specs.Loop.{returns}
-use Rattle.parser_definitions.specs.Outcome.{Does, Setting, backs, misused, outcome_of}
-use Rattle.parser_definitions.specs.Outcome.{took, wants}
+use Rattle.parser_definitions.specs.Items.{ItemsTurn, items_next}
+use Rattle.parser_definitions.specs.Left.{End, Left, back}
+use Rattle.parser_definitions.specs.Loop.{Turn, last_comes, last_turn, returns}
+use Rattle.parser_definitions.specs.Outcome.{Does, Setting, backs, misused, outcome_of, took}
+use Rattle.parser_definitions.specs.Outcome.{wants}
 use Rattle.parser_definitions.specs.Then.{ComesOf, Then}
-use Rattle.parser_definitions.specs.Then.Steps.{instead, same, takes}
-pub mod Fill
+use Rattle.parser_definitions.specs.Then.Steps.{instead, same}
 
+-- the error of a misuse has its outcome
 pub misuse : {L O : Type 0} (at : Setting) (l : L)
     → outcome_of {O = O} (Err (assert_kind at.form)) l ≡ misused at l
 misuse {L} {O} at l = by at.form
@@ -28,47 +23,6 @@ misuse {L} {O} at l = by at.form
         ≡ misused (record { form = form; more = at.more; possible = at.possible }) l
     by modal = refl
     by plain = refl
-
--- the same state and the same remaining input
-pub same_end : {Q T : Type 0} {t u : Q} {j m : Input T} → t ≡ u → j ≡ m
-    → ◌≡◌ {A = End Q T} (t, left_of j) (u, left_of m)
-same_end {Q} {T} {t} {u} {j} {m} kept is =
-    let make : Q → Input T → End Q T = λ q i. (q, left_of i) in
-    ap (λ q. make q j) kept ∙ ap (λ i. make u i) is
-
--- ---- items
-
-module _ {S T O : Type 0} {at : Setting} {run : Runs S T O} {does : Does S T O}
-    (child : Covers at run does) (s : S) (i : Input T) (t : S) (j : Input T) (here : At at i) where
-  pub item_fails : (k : Kind) → run s i (Err k) t j
-      → Item does at s (left_of i) (outcome_of (Err k) (t, left_of j)) × At at j
-  item_fails k ran =
-      let d = child.covers s i (Err k) t j here ran in (
-        (
-          outcome_of (Err k) (t, left_of j),
-          d.0,
-          failed instead (λ o. by_consuming (takes instead (Some o)) (takes instead None)) at s
-              (left_of i) k (left_of j) t t (Err k) refl refl,
-        ),
-        d.1,
-      )
-
-  pub item_consumes : (o : O) → run s i (Ok o) t j
-      → length j.left.tokens < length i.left.tokens
-      → Item does at s (left_of i) (took (Some o) (t, left_of j)) × At at j
-  item_consumes o ran fewer =
-      let d = child.covers s i (Ok o) t j here ran in
-      ((took o (t, left_of j), d.0, inl (fewer, refl)), d.1)
-
-  pub item_stays : (o : O) → run s i (Ok o) t j → j.left.tokens ≡ i.left.tokens
-      → Item does at s (left_of i) (took None (t, left_of j)) × At at j
-  item_stays o ran is =
-      let d = child.covers s i (Ok o) t j here ran in
-      let not : length j.left.tokens < length i.left.tokens → ⊥ =
-      λ fewer. absurd (omega (arith, fewer, ap (λ l. length l) is)) in
-      ((took o (t, left_of j), d.0, inr (not, refl)), d.1)
-
--- ---- turns
 
 module _ {S Q T C O : Type 0} (get : Q → S) (put : Q → S → Q) (f : Folding Q C O)
     (bounds : Bounds) (item : Does S T (Option O)) where
