@@ -1,25 +1,25 @@
 -- The grammar of a repetition into a slice.
-use Rattle.std.specs.Prelude.{◌≡◌, ℕ, true, false, List, [], ◌∷◌, ◌++◌, length, Result, Ok, Err}
-use Rattle.std.specs.List.{FoldsTo}
+use Rattle.std.specs.Prelude.{◌≡◌, ℕ, true, false, List, [], ◌∷◌, ◌++◌, length, Ok, Err}
 use Rattle.std.proofs.Common.{refl, sym, ap, subst, inl, inr, ◌∙◌, arith, length-append}
 use Rattle.std.proofs.lemmas.List.{append-nil, length_push}
 use Rattle.streams.specs.Equal.{none_is_some}
-use Rattle.streams.specs.Input.{Input}
+use Rattle.streams.specs.Input.{Input, back_at}
 use Rattle.streams.specs.Kind.{Kind, backtrack, cut, incomplete, memory}
 use Rattle.streams.specs.Reading.{Reading}
-use Rattle.stream_errors.specs.Form.{Answer, ErrorForm, answer_by}
-use Rattle.grammars.specs.Grammar.{Each, Grammar, IsUnique, Many, TakesTokens}
+use Rattle.stream_errors.specs.Form.{Answer, ErrorForm}
+use Rattle.grammars.specs.Grammar.{Each, Grammar, IsUnique, Many}
 use Rattle.grammars.specs.Grammar.Unique.{no_more}
 use Rattle.parser_definitions.specs.Terms.{Claim, Claimed}
 use Rattle.parser_definitions.specs.Does.{Ran}
 use Rattle.parser_definitions.specs.Left.{left_of}
 use Rattle.parser_definitions.specs.Outcome.{Does, outcome_of}
 use Rattle.parser_definitions.specs.Projects.{Agreement, Complete, Projects}
-use Rattle.winnow_core.specs.Chain.{IsItem}
+use Rattle.winnow_core.specs.Chain.{Items}
 use Rattle.winnow_core.specs.Elements.{length-zero}
 use Rattle.winnow_core.specs.Exact.{UnlessWanted, agreement_of}
-use Rattle.winnow_slices.specs.IntoSlice.{IntoSlice, IntoSliceEnds, Overwrites}
+use Rattle.winnow_slices.specs.IntoSlice.{Overwrites}
 use Rattle.winnow_slices.specs.IntoSlice.Exact.{AllMatches, HasMore, ReadsIntoSlice}
+use Rattle.winnow_slices.proofs.SliceLemmas.{Stored, as_long}
 
 -- ---- laws
 
@@ -73,7 +73,7 @@ module _ {S T L O : Type 0} (reading : Reading T L) {does : Does S T O} (form : 
 
   -- consecutive items match, and do not change the state
   chain_agrees : (os : List O) (i : Input T) (u : S) (n : Input T) → i.status.cut ≡ false
-      → FoldsTo (λ p o q. IsItem (Ran reading does form) p o q) (s, i) os (u, n)
+      → Items (Ran reading does form) s i os u n
       → (u ≡ s) × (n.status.cut ≡ false) × Each g i.left.tokens os n.left.tokens
   chain_agrees [] i u n whole e =
       let P : S × Input T → Type 0 =
@@ -81,97 +81,101 @@ module _ {S T L O : Type 0} (reading : Reading T L) {does : Does S T O} (form : 
       subst P e (refl, whole, refl)
   chain_agrees (o ∷ os) i u n whole (p, item, rest) =
       let P : S → Type 0 =
-      λ x. FoldsTo (λ a b q. IsItem (Ran reading does form) a b q) (x, p.1) os (u, n) in
+      λ x. Items (Ran reading does form) x p.1 os u n in
       let (is_match, same) = called i (Ok o) p.0 p.1 whole item.0 in
       let (last, ends, each) = chain_agrees os p.1 u n (still i (Ok o) p.0 p.1 whole item.0)
       (subst P same rest) in
       (last, ends, (p.1.left.tokens, is_match, each))
 
-  module _ (backs : b) (takes : TakesTokens g) (too_many : ℕ → Kind → Type 0) (asserted : Kind)
-      {old new os : List O} (written : Overwrites os old new) (i n : Input T)
-      (whole : n.status.cut ≡ false) (each : Each g i.left.tokens os n.left.tokens) where
-    abbrev Read : S → Input T → Answer ℕ → Type 0
-    Read t j answer = UnlessWanted (λ k. k) answer (t ≡ s)
-        × ReadsIntoSlice g m too_many old i.left.tokens answer new j.left.tokens
+-- ---- what a call returns, after items whose outputs are stored
 
-    -- another error is out of memory
-    wanted : (k : Kind) (t : S) (j : Input T) → (k ≡ backtrack → ⊥) → Agreed n (Err k) t j
-        → (k ≡ memory) × (m → ⊥)
-    wanted backtrack t j other a = absurd (other refl)
-    wanted cut t j other (none, kept, not) = absurd (not backs)
-    wanted (incomplete need) t j other never = absurd never
-    wanted memory t j other not = (refl, not)
+module _ {S T L O : Type 0} (reading : Reading T L) {does : Does S T O} (form : ErrorForm)
+    {claim : Claim T O} {s : S} (claimed : Claimed claim s does) (is : claim.premise)
+    (soft : claim.backtracks) (consumes : claim.consumes) (too_many : ℕ → Kind → Type 0)
+    {old now : List O} {i m : Input T} {u : S} {n : ℕ} (whole : i.status.cut ≡ false)
+    (stored : Stored (Ran reading does form) old now s i u m n) (t : S) where
+  projects : (at : Complete) → Projects claim.backtracks claim.spares_memory does at s claim.grammar
+  projects at = claimed.projects at is
 
-    ends_read : (answer : Answer ℕ) (t : S) (j : Input T)
-        → IntoSliceEnds (Ran reading does form) too_many asserted (length old) os s n answer t j
-        → Read t j answer
-    unfolding Many
-    ends_read answer t j (inl (x, r, e, same)) =
-        let Q : List T → Type 0 = λ l. AllMatches g i.left.tokens os l in
-        let (none, kept) = called n (Err backtrack) t x whole r in
-        subst (Read t j) (sym e) (
-          kept,
-          record {
-            stands = (
-              os,
-              refl,
-              written,
-              subst Q (sym (ap (λ y. y.left.tokens) same)) (each, omega arith, inr (tt, none)),
-            );
-            fails = tt;
-          },
-        )
-    ends_read answer t j (inr (inl (k, r, other, e))) =
-        let (is, not) = wanted k t j other (called n (Err k) t j whole r) in
-        subst (Read t j) (sym e) (inl is, record { stands = tt; fails = inr (is, not) })
-    ends_read answer t j (inr (inr (inl (o, r, nothing, e)))) =
-        let fewer = takes.fewer n.left.tokens o j.left.tokens (called n (Ok o) t j whole r).0 in
-        let as_many = ap length nothing in
-        absurd (omega (arith, fewer, as_many))
-    ends_read answer t j (inr (inr (inr (o, x, k, full, r, less, same, many, e)))) =
-        let P : List O → List T → Type 0 = λ l rest. HasMore g l i.left.tokens rest in
-        let is = all_written written full in
-        let (is_match, kept) = called n (Ok o) t x whole r in
-        subst (Read t j) (sym e) (
+  abbrev Told : Answer ℕ → Input T → Type 0
+  Told answer j = UnlessWanted (λ k. k) answer (t ≡ s)
+      × ReadsIntoSlice claim.grammar claim.spares_memory too_many old i.left.tokens answer now
+      j.left.tokens
+
+  matched : (u ≡ s) × (m.status.cut ≡ false)
+      × Each claim.grammar i.left.tokens stored.outputs m.left.tokens
+  matched = chain_agrees reading form projects stored.outputs i u m whole stored.items
+
+  agreed : (answer : Answer O) (j : Input T) → Ran reading does form u m answer t j
+      → Agreement claim.backtracks claim.spares_memory s claim.grammar m.left.tokens
+      (outcome_of answer (t, left_of j))
+  agreed answer j ran =
+      let R : S → Type 0 = λ z. Ran reading does form z m answer t j in
+      called reading form projects m answer t j matched.1 (subst R matched.0 ran)
+
+  -- an item backtracks
+  pub counted_read : (k : Kind) → k ≡ backtrack → (x : Input T)
+      → Ran reading does form u m (Err k) t x → (j : Input T) → j ≡ back_at m.left x
+      → Told (Ok n) j
+  unfolding Many
+  counted_read k back x ran j same =
+      let R : Kind → Type 0 = λ k. Ran reading does form u m (Err k) t x in
+      let (none, kept) = agreed (Err backtrack) x (subst R back ran) in
+      let Q : List T → Type 0 = λ l. AllMatches claim.grammar i.left.tokens stored.outputs l in (
+        kept,
+        record {
+          stands = (
+            stored.outputs,
+            sym stored.counted,
+            stored.written,
+            subst Q (sym (ap (λ y. y.left.tokens) same)) (matched.2, omega arith, inr (tt, none)),
+          );
+          fails = tt;
+        },
+      )
+
+  -- it fails by another kind: out of memory
+  pub failed_read : (k : Kind) → (k ≡ backtrack → ⊥) → (j : Input T)
+      → Ran reading does form u m (Err k) t j → Told (Err k) j
+  failed_read k other j ran =
+      let (wanting, not) = wanted k other (agreed (Err k) j ran) in
+      (inl wanting, record { stands = tt; fails = inr (wanting, not) })
+    where
+      wanted : (k : Kind) → (k ≡ backtrack → ⊥)
+          → Agreement claim.backtracks claim.spares_memory s claim.grammar m.left.tokens
+          (outcome_of (Err k) (t, left_of j))
+          → (k ≡ memory) × (claim.spares_memory → ⊥)
+      wanted backtrack other a = absurd (other refl)
+      wanted cut other (none, kept, not) = absurd (not soft)
+      wanted (incomplete need) other never = absurd never
+      wanted memory other not = (refl, not)
+
+  module _ (o : O) (x : Input T) (ran : Ran reading does form u m (Ok o) t x) where
+    -- it consumes nothing: no match does
+    pub stuck_read : x.left.tokens ≡ m.left.tokens → ⊥
+    stuck_read nothing =
+        let fewer = (claimed.takes is consumes).fewer m.left.tokens o x.left.tokens
+        (agreed (Ok o) x ran).0 in
+        omega (arith, fewer, ap length nothing)
+
+    -- there is no element for its output
+    pub full_read : length now ≡ n → (k : Kind) → too_many n k → (j : Input T)
+        → j ≡ back_at m.left x → Told (Err k) j
+    full_read full k many j same =
+        let P : List O → List T → Type 0 = λ l rest. HasMore claim.grammar l i.left.tokens rest in
+        let (is_match, kept) = agreed (Ok o) x ran in
+        let long = as_long stored.written in
+        let written = all_written stored.written (stored.counted ∙ sym full ∙ long) in (
           inr kept,
           record {
             stands = tt;
             fails = inl (
-              many,
-              ap length is ∙ full,
-              subst (λ l. P l j.left.tokens) (sym is)
-                  (subst (P os) (sym (ap (λ y. y.left.tokens) same))
-                  (has_more (projects (record { form = form; possible = true })).unique os
-                  i.left.tokens n.left.tokens x.left.tokens o each is_match)),
+              subst (λ l. too_many l k) (sym full ∙ long) many,
+              long,
+              subst (λ l. P l j.left.tokens) (sym written)
+                  (subst (P stored.outputs) (sym (ap (λ y. y.left.tokens) same))
+                  (has_more (projects (record { form = form; possible = true })).unique
+                  stored.outputs i.left.tokens m.left.tokens x.left.tokens o matched.2 is_match)),
             );
           },
         )
-
-unless_by : {O E : Type 0} (P : Type 0) (kind : E → Kind) (result : Result O E)
-    → UnlessWanted (λ k. k) (answer_by kind result) P → UnlessWanted kind result P
-unless_by P kind (Ok o) is = is
-unless_by P kind (Err e) is = is
-
--- the clause of a call
-pub into_slice_reads : {S T L O E : Type 0} (reading : Reading T L) {does : Does S T O}
-    → {claim : Claim T O} {s : S}
-    → Claimed claim s does → claim.premise → claim.backtracks → claim.consumes
-    → (too_many : ℕ → Kind → Type 0) (asserted : Kind) (form : ErrorForm) (kind : E → Kind)
-    (old : List O) (i : Input T) (result : Result ℕ E) (new : List O) (t : S) (j : Input T)
-    → i.status.cut ≡ false
-    → IntoSlice (Ran reading does form) too_many asserted old s i (answer_by kind result) new t j
-    → UnlessWanted kind result (t ≡ s)
-    × ReadsIntoSlice claim.grammar claim.spares_memory too_many old i.left.tokens
-    (answer_by kind result) new j.left.tokens
-into_slice_reads {S} reading {does} {claim} {s} claimed is backs consumes too_many asserted
-    form kind old i result new t j whole (os, u, n, chain, written, ends) =
-    let projects : (at : Complete)
-    → Projects claim.backtracks claim.spares_memory does at s claim.grammar =
-    λ at. claimed.projects at is in
-    let (same, complete, each) = chain_agrees reading form projects os i u n whole
-    chain.runs in
-    let P : S → Type 0 = λ x. IntoSliceEnds (Ran reading does form) too_many asserted (length old)
-    os x n (answer_by kind result) t j in
-    let (kept, reads) = ends_read reading form projects backs (claimed.takes is consumes)
-    too_many asserted written i n complete each (answer_by kind result) t j (subst P same ends) in
-    (unless_by (t ≡ s) kind result kept, reads)

@@ -3,10 +3,9 @@
 
 ghost use Rattle.parser_definitions.specs.Does.{Ran};
 ghost use Rattle.std.specs.Prelude.{◌≡◌, false};
-ghost use Rattle.stream_errors.specs.Form.{answer_by, assert_kind};
-ghost use Rattle.streams.specs.Input.{IsEndOf};
+ghost use Rattle.stream_errors.specs.Form.{answer_by};
 ghost use Rattle.parser_definitions.specs.Fill.{IntoSliceDoes};
-ghost use Rattle.winnow_slices.specs.IntoSlice.{IntoSlice, TooManyKind};
+ghost use Rattle.winnow_slices.specs.IntoSlice.{StoresItems, TooManyKind};
 ghost use Rattle.winnow_slices.specs.IntoSlice.Exact.{ReadsIntoSlice};
 ghost use Rattle.winnow_core.specs.Exact.{UnlessWanted};
 ghost use Rattle.winnow_core.specs.Tells.{Tells};
@@ -55,10 +54,11 @@ where
     E: ParserError<I> + FromExternalError<I, TooMany>,
     requires { P.can_parse parser.old }
     ensures again { P.can_parse parser.new }
-    ensures ran { IntoSlice (Ran I.reading P.does E.form) (TooManyKind E.external_gives)
-        (assert_kind E.form) slice.old (P.state parser.old) (I.view input.old)
-        (answer_by E.kind result) slice.new (P.state parser.new) (I.view input.new) }
-    ensures ends { IsEndOf I.reading (I.view input.new) (I.view input.old) }
+    ensures ran { Ran I.reading (IntoSliceDoes (TooManyKind E.external_gives) P.does) E.form
+        (P.state parser.old, slice.old) (I.view input.old) (answer_by E.kind result)
+        (P.state parser.new, slice.new) (I.view input.new) }
+    ensures stored { StoresItems I.reading P.does E.form slice.old (P.state parser.old)
+        (I.view input.old) slice.new }
     ensures tells { P.terms.premise → ((o p : O) → P.terms.alike o p → o ≡ p)
         → Tells I.reading (λ n m. n ≡ m)
         (IntoSliceDoes (TooManyKind E.external_gives) P.does) E.form
@@ -86,10 +86,20 @@ where
     E: ParserError<I> + FromExternalError<I, TooMany>,
     requires { P.can_parse parser.old }
     ensures again { P.can_parse parser.new }
-    ensures ran { IntoSlice (Ran I.reading P.does E.form) (TooManyKind E.external_gives)
-        (assert_kind E.form) slice.old (P.state parser.old) (I.view input.old)
-        (answer_by E.kind result) slice.new (P.state parser.new) (I.view input.new) }
-    ensures ends { IsEndOf I.reading (I.view input.new) (I.view input.old) }
+    ensures ran { Ran I.reading (IntoSliceDoes (TooManyKind E.external_gives) P.does) E.form
+        (P.state parser.old, slice.old) (I.view input.old) (answer_by E.kind result)
+        (P.state parser.new, slice.new) (I.view input.new) }
+    ensures stored { StoresItems I.reading P.does E.form slice.old (P.state parser.old)
+        (I.view input.old) slice.new }
+    ensures reads { (P.terms.claim (P.state parser.old)).premise
+        → (P.terms.claim (P.state parser.old)).backtracks
+        → (P.terms.claim (P.state parser.old)).consumes
+        → (I.view input.old).status.cut ≡ false
+        → UnlessWanted E.kind result (P.state parser.new ≡ P.state parser.old)
+        × ReadsIntoSlice (P.terms.claim (P.state parser.old)).grammar
+        (P.terms.claim (P.state parser.old)).spares_memory (TooManyKind E.external_gives) slice.old
+        (I.view input.old).left.tokens (answer_by E.kind result) slice.new
+        (I.view input.new).left.tokens }
 {
     let mut count = 0;
     'items: loop {
