@@ -59,6 +59,7 @@ impl<I: ByteStream> Bits<I> {
     }
 
     /// Whether the value is possible and `count` bits remain, of which there is at least one.
+    /// It compares bytes, which the compiler joins for consecutive constant counts.
     ///
     /// ```
     /// assert!(rt; Bits(b"\xAB".as_slice(), 4).has(4));
@@ -73,7 +74,7 @@ impl<I: ByteStream> Bits<I> {
             → length (⟦<Bits<I> as Stream>⟧.view self.now).left.tokens < count }
     {
         let bytes = self.0.eof_offset();
-        self.1 < 8 && bytes <= MOST_BYTES && count <= (8 * bytes).saturating_sub(self.1)
+        self.1 < 8 && bytes <= MOST_BYTES && count / 8 + (count % 8 + self.1 + 7) / 8 <= bytes
     }
 
     /// Consumes the next `count` bits and returns them as a number, or `None` if no byte remains.
