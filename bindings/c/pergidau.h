@@ -2302,7 +2302,9 @@ enum pergidau_code pergidau_json_member(
  * # Errors
  *
  * PERGIDAU_BUFFER_TOO_SMALL: the text has more nodes than nodes has entries. The first are
- * written, and the number of all. So a call without entries returns the required number.
+ * written, and the number of all. So a call without entries returns the required number. One
+ * entry for each comma, colon, opening bracket and opening brace of the text, and one more,
+ * are always enough.
  *
  * PERGIDAU_INVALID: the text is not a JSON text. 0 is written, and the contents of nodes are
  * unspecified. pergidau_json_diagnose reports where and why.

@@ -33,10 +33,11 @@ static size_t check_node(const uint8_t *bytes, size_t length, size_t max_depth,
     return inside;
 }
 
-/* Compares the nodes of a text with its items, and those of smaller buffers with the first nodes. */
+/* Compares the nodes of a text with its items and with the header's maximum, and those of smaller
+ * buffers with the first nodes. */
 static void read_nodes(const uint8_t *bytes, size_t length)
 {
-    size_t max_depth = below(8), count = 7, again;
+    size_t max_depth = below(8), count = 7, most = 1, again;
     enum pergidau_code is_text = pergidau_json_check(bytes, length, max_depth);
     enum pergidau_code code = pergidau_json_nodes(bytes, length, max_depth, NULL, 0, &count);
     HOLDS(code == (is_text == PERGIDAU_DONE ? PERGIDAU_BUFFER_TOO_SMALL : is_text));
@@ -45,6 +46,10 @@ static void read_nodes(const uint8_t *bytes, size_t length)
         return;
     }
     HOLDS(count == items(bytes, length, max_depth));
+    for (size_t i = 0; i < length; i++) {
+        most += bytes[i] == ',' || bytes[i] == ':' || bytes[i] == '[' || bytes[i] == '{';
+    }
+    HOLDS(count <= most && count <= length / 2 + 1);
     struct pergidau_json_node *nodes = malloc((count + 1) * sizeof *nodes);
     const struct pergidau_json_node other = {PERGIDAU_JSON_NULL, 1, 2, 3};
     nodes[count] = other;

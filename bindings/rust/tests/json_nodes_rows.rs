@@ -54,11 +54,27 @@ fn errors_of_nodes() {
 }
 
 #[test]
-fn buffers_of_nodes_grow() {
+fn each_text_is_parsed_once() {
     let text = "[".to_string() + &"0,".repeat(1000) + "0]";
     let nodes = OwnedNodes::parse(&text, 1).unwrap();
     assert_eq!(nodes.nodes().nodes().len(), 1002);
     assert_eq!(nodes.root().kind(), Kind::Array);
     assert_eq!(nodes.root().at(1000).unwrap().value().as_i64(), Some(0));
     assert!(nodes.root().at(1001).is_none());
+    // Texts with the most nodes for their length, and with the most bytes that are counted.
+    for part in ["0", "[]", "{}", "\"\"", "[[0]]", "{\"\":0}", "{\"\":{\"\":[]}}", "\",[:{,\""] {
+        for count in [1, 2, 300] {
+            let text = format!("[{}]", vec![part; count].join(","));
+            let mut room = vec![Node::default(); text.len()];
+            let nodes = json::nodes(&text, 4, &mut room).unwrap().nodes();
+            assert_eq!(OwnedNodes::parse(&text, 4).unwrap().nodes().nodes(), nodes);
+            assert_eq!(OwnedNodes::parse(part, 4).unwrap().nodes().nodes()[0].next, (nodes.len() - 1) / count);
+        }
+    }
+    // More values than the counted bytes of a text that is not valid.
+    for text in ["", "1 2 3", "[1 2 3]", "\"\"\"\"", "{\"\" 1}", "[]]", "[[]", "[1,,2]"] {
+        let mut room = [Node::default(); 8];
+        let error = json::nodes(text, 4, &mut room).err().unwrap();
+        assert_eq!(OwnedNodes::parse(text, 4).err(), Some(error));
+    }
 }

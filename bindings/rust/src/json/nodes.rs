@@ -6,7 +6,7 @@ use super::{check, unknown, Kind, Value};
 use crate::exports;
 use crate::{Error, RequiredSize};
 #[cfg(feature = "alloc")]
-use alloc::{vec, vec::Vec};
+use alloc::vec::Vec;
 use core::fmt;
 
 /// The values of a JSON text, as nodes in a buffer.
@@ -40,7 +40,8 @@ pub struct OwnedNodes<'i> {
 
 #[cfg(feature = "alloc")]
 impl<'i> OwnedNodes<'i> {
-    /// Checks a text and writes its values, like [`nodes`]. A buffer that is too small grows once.
+    /// Checks a text and writes its values, like [`nodes`]. The buffer has room for as many nodes as
+    /// the text has `,`, `:`, `[` and `{`, but at most one for two bytes, so the text is parsed once.
     ///
     /// ```
     /// use pergidau::json::OwnedNodes;
@@ -50,16 +51,15 @@ impl<'i> OwnedNodes<'i> {
     /// # Ok::<(), pergidau::Error>(())
     /// ```
     pub fn parse(text: &'i str, max_depth: usize) -> Result<OwnedNodes<'i>, Error> {
-        let mut nodes = vec![Node::default(); text.len() / 8 + 8];
-        let count = loop {
-            match write(text, max_depth, &mut nodes) {
-                Err(Error::BufferTooSmall(required)) => {
-                    nodes.resize(required.entries.max(nodes.len()), Node::default());
-                }
-                found => break found?,
-            }
-        };
-        nodes.truncate(count);
+        let mut nodes = Vec::with_capacity(most_nodes(text));
+        // SAFETY: the nodes are those of a live vector.
+        let count = unsafe { write(text, max_depth, nodes.as_mut_ptr(), nodes.capacity()) }?;
+        // SAFETY: the first `count` nodes were written.
+        unsafe { nodes.set_len(count) };
+        // (many commas are in strings)
+        if count < nodes.capacity() / 4 {
+            nodes.shrink_to_fit();
+        }
         Ok(OwnedNodes { text, nodes, max_depth })
     }
 
@@ -250,20 +250,38 @@ pub fn nodes<'b>(
     max_depth: usize,
     nodes: &'b mut [Node],
 ) -> Result<Nodes<'b>, Error> {
-    let count = write(text, max_depth, nodes)?;
+    // SAFETY: the nodes are those of a live borrow.
+    let count = unsafe { write(text, max_depth, nodes.as_mut_ptr(), nodes.len()) }?;
     Ok(Nodes { text, nodes: &nodes[..count], max_depth })
 }
 
-/// Writes the nodes, and returns their number.
-fn write(text: &str, max_depth: usize, nodes: &mut [Node]) -> Result<usize, Error> {
+/// Returns a number of nodes that is enough for a valid text. Each node except the first has one of
+/// four bytes before it. If there are two bytes for each node, strings have the other ones.
+#[cfg(feature = "alloc")]
+fn most_nodes(text: &str) -> usize {
+    let mut count = 1;
+    // (a sum of a block fits a byte, so 16 bytes are compared at once)
+    for block in text.as_bytes().chunks(224) {
+        let is_counted = |it: u8| it == b',' || it == b':' || it | 32 == b'{';
+        count += usize::from(block.iter().map(|it| u8::from(is_counted(*it))).sum::<u8>());
+    }
+    count.min(text.len() / 2 + 1)
+}
+
+/// Writes the nodes, and returns their number. `nodes` must be valid for writes of `length` nodes.
+unsafe fn write(
+    text: &str,
+    max_depth: usize,
+    nodes: *mut Node,
+    length: usize,
+) -> Result<usize, Error> {
     let mut count = 0;
-    let (room, length) = (nodes.as_mut_ptr(), nodes.len());
-    // SAFETY: the pointers are those of live borrows, and the text is only read. The call takes up to
-    // 81 KiB of stack at `MAX_DEPTH` (measured); where there is less, the thread's guard page ends the
-    // program.
+    // SAFETY: the pointers are those of live borrows, or of nodes of the caller, and the text is only
+    // read. The call takes up to 81 KiB of stack at `MAX_DEPTH` (measured); where there is less, the
+    // thread's guard page ends the program.
     let code = unsafe {
         exports::exported_json_nodes(
-            text.as_ptr(), text.len(), max_depth, room, length, &mut count,
+            text.as_ptr(), text.len(), max_depth, nodes, length, &mut count,
         )
     };
     match code {

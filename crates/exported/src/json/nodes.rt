@@ -25,7 +25,8 @@ use format_json_nodes::nodes::write_nodes;
 /// # Errors
 ///
 /// `BUFFER_TOO_SMALL`: the text has more nodes than `nodes` has entries. The first are written, and
-/// the number of all. So a call without entries returns the required number.
+/// the number of all. So a call without entries returns the required number. One entry for each
+/// comma, colon, opening bracket and opening brace of the text, and one more, are always enough.
 ///
 /// `INVALID`: the text is not a JSON text. 0 is written, and the contents of `nodes` are
 /// unspecified. `exported_json_diagnose` reports where and why.
