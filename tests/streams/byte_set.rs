@@ -1,5 +1,5 @@
 //! Sets of bytes as a table.
-use byte_sets::byte_set::ByteSet;
+use stream_sets::byte_set::ByteSet;
 use std::process::Abort;
 use stream_sets::classes::HexadecimalDigits;
 use stream_sets::sets::{ContainsToken, Pred};

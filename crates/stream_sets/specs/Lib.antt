@@ -2,6 +2,7 @@
 pub mod Accumulator
 pub mod AsBStr
 pub mod AsChar
+pub mod ByteSet
 pub mod Longest
 pub mod Once
 pub mod ParseSlice

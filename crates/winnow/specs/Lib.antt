@@ -60,18 +60,17 @@ pub use Rattle.streams.specs.Stream
 pub use Rattle.streams.specs.Text
 pub use Rattle.streams.specs.TokenSlice
 pub use Rattle.streams.specs.Utf8
--- Requirements of parsers on the tokens of a stream: counts, classes of characters and sets of
--- tokens.
+-- Requirements of parsers on the tokens of a stream: counts, classes of characters, sets of tokens
+-- and of bytes.
 pub use Rattle.stream_sets.specs.Accumulator
 pub use Rattle.stream_sets.specs.AsBStr
 pub use Rattle.stream_sets.specs.AsChar
+pub use Rattle.stream_sets.specs.ByteSet
 pub use Rattle.stream_sets.specs.Longest
 pub use Rattle.stream_sets.specs.Once
 pub use Rattle.stream_sets.specs.ParseSlice
 pub use Rattle.stream_sets.specs.Range
 pub use Rattle.stream_sets.specs.Sets
--- Sets of bytes as a table of bits.
-pub use Rattle.byte_sets.specs.ByteSet
 -- Lines and columns of a text.
 pub use Rattle.text_positions.specs.Excerpt
 pub use Rattle.text_positions.specs.Position

@@ -1,5 +1,4 @@
 //! Streams, and the sets, literals and numbers that parsers match against them.
-pub use byte_sets::byte_set::ByteSet;
 pub use stream_errors::recover::Recover;
 pub use stream_recovery::recoverable::Recoverable;
 pub use stream_searches::compare::{Compare, CompareResult};
@@ -8,6 +7,7 @@ pub use stream_searches::slice_len::{SliceLen, SlicesWithLength};
 pub use stream_sets::accumulate::Accumulate;
 pub use stream_sets::as_bstr::{AsBStr, SlicesAsBytes};
 pub use stream_sets::as_char::AsChar;
+pub use stream_sets::byte_set::ByteSet;
 pub use stream_sets::numbers::ToUsize;
 pub use stream_sets::parse_slice::ParseSlice;
 pub use stream_sets::range::Range;

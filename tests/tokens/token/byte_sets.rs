@@ -1,5 +1,5 @@
 //! Sets of bytes as tables, compared with the same set as a list.
-use byte_sets::byte_set::ByteSet;
+use stream_sets::byte_set::ByteSet;
 use stream_errors::empty::EmptyError;
 use stream_sets::range::Range;
 use streams::partial::Partial;

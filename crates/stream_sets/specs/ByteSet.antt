@@ -1,7 +1,7 @@
 -- Which bytes a table of bits has.
 use Rattle.std.specs.Prelude.{◌+◌, ◌/◌, ◌%◌, ℕ, suc, zero, Bool, List, cond, slice_index_or, ◌==◌}
 use Rattle.std.specs.Int.{bit_at}
-use Rattle.byte_sets.specs.declared.byte_set.ByteSet.{ByteSet}
+use Rattle.stream_sets.specs.declared.byte_set.ByteSet.{ByteSet}
 
 -- the bit of a byte in the words of a table
 abbrev pub bit_of : List ℕ → ℕ → ℕ

@@ -1,9 +1,9 @@
 //! A set of bytes as a table.
 ghost use Rattle.std.specs.Prelude.{◌≡◌, ◌<◌, ◌≤◌, ◌+◌, ◌-◌, ◌==◌, ◌||◌, ℕ, not};
 ghost use Rattle.std.specs.Int.{bit_at};
-ghost use Rattle.byte_sets.specs.ByteSet.{has_byte, members_below};
+ghost use Rattle.stream_sets.specs.ByteSet.{has_byte, members_below};
 
-use stream_sets::sets::ContainsToken;
+use crate::sets::ContainsToken;
 
 /// A set of bytes: four words of 64 bits, a bit for each byte. It takes no memory, and asking it
 /// is one look-up.

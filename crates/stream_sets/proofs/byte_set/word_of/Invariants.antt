@@ -1,6 +1,6 @@
 use Rattle.std.proofs.Common.{◌≡◌, ◌<◌, ◌≤◌, ◌+◌, ℕ, nat_eq}
 use Rattle.std.specs.Int.{bit_at}
-use Rattle.byte_sets.proofs.byte_set.word_of.Given as goal
+use Rattle.stream_sets.proofs.byte_set.word_of.Given as goal
 
 abbrev pub invariant-loop-bit : goal.invariant-loop-bit
 invariant-loop-bit g l = record {

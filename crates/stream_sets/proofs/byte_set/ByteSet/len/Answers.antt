@@ -1,6 +1,6 @@
 use Rattle.std.proofs.Common.{◌≡◌, ◌∙◌, ap, arith}
-use Rattle.byte_sets.specs.ByteSet.{members_below}
-use Rattle.byte_sets.proofs.byte_set.ByteSet.len.Goals as goal
+use Rattle.stream_sets.specs.ByteSet.{members_below}
+use Rattle.stream_sets.proofs.byte_set.ByteSet.len.Goals as goal
 
 pub returns : goal.returns
 returns c =

@@ -1,7 +1,7 @@
 use Rattle.std.proofs.Common.{◌+◌, ℕ, Bool, arith}
-use Rattle.byte_sets.proofs.WordLemmas.{none_above, with_member, without_member}
-use Rattle.byte_sets.proofs.byte_set.word_of.Goals as goal
-use Rattle.byte_sets.proofs.byte_set.word_of.Goals.{then-contains_token, else-contains_token}
+use Rattle.stream_sets.proofs.WordLemmas.{none_above, with_member, without_member}
+use Rattle.stream_sets.proofs.byte_set.word_of.Goals as goal
+use Rattle.stream_sets.proofs.byte_set.word_of.Goals.{then-contains_token, else-contains_token}
 
 pub loop-bit-preserved : goal.loop-bit-preserved
 loop-bit-preserved g c =

@@ -1,6 +1,6 @@
 use Rattle.std.proofs.Common.{◌≡◌, ◌≤◌}
-use Rattle.byte_sets.specs.ByteSet.{members_below}
-use Rattle.byte_sets.proofs.byte_set.ByteSet.len.Given as goal
+use Rattle.stream_sets.specs.ByteSet.{members_below}
+use Rattle.stream_sets.proofs.byte_set.ByteSet.len.Given as goal
 
 abbrev pub invariant-loop-byte : goal.invariant-loop-byte
 invariant-loop-byte l = record {

@@ -9,7 +9,7 @@ use Rattle.std.specs.Int.{bit_at, w64}
 use Rattle.std.specs.Int.RustNames.{bit_or}
 use Rattle.std.proofs.lemmas.Nat.Bits.{bit_at-lt, bit_at_or}
 use Rattle.std.proofs.lemmas.Nat.Bits.{bit_at_set_same, bit_at_set_other}
-use Rattle.byte_sets.specs.ByteSet.{bit_of}
+use Rattle.stream_sets.specs.ByteSet.{bit_of}
 
 -- a number of a word, one by one
 pub each_word : (P : ℕ → Type 0) → P 0 → P 1 → P 2 → P 3 → (q : ℕ) → q < 4 → P q

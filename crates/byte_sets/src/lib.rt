@@ -1,4 +1,0 @@
-//! Sets of bytes as a table of bits.
-#![tactic(auto)]
-
-pub mod byte_set;
