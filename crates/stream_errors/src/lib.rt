@@ -10,6 +10,7 @@ pub mod context_error;
 pub mod control;
 pub mod convert;
 pub mod empty;
+pub mod expected;
 pub mod external;
 pub mod fault;
 pub mod growth;

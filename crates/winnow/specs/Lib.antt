@@ -88,6 +88,7 @@ pub use Rattle.stream_searches.specs.TokenCompare
 -- Errors of parsers: their kinds, and the errors of a whole parse.
 pub use Rattle.stream_errors.specs.ContextError
 pub use Rattle.stream_errors.specs.Control
+pub use Rattle.stream_errors.specs.Expected
 pub use Rattle.stream_errors.specs.Fault
 pub use Rattle.stream_errors.specs.Form
 pub use Rattle.stream_errors.specs.Given
@@ -95,8 +96,6 @@ pub use Rattle.stream_errors.specs.Growth
 pub use Rattle.stream_errors.specs.Join
 pub use Rattle.stream_errors.specs.Mode
 pub use Rattle.stream_errors.specs.Recover
--- An error that keeps what each branch of a choice expected.
-pub use Rattle.stream_expected.specs.Expected
 -- Streams of bits: the bits of a stream of bytes.
 pub use Rattle.stream_bits.specs.BitInput
 pub use Rattle.stream_bits.specs.BitList

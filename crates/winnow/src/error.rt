@@ -1,5 +1,4 @@
 //! Errors of parsers.
-pub use stream_expected::expected::ExpectedError;
 pub use streams::needed::Needed;
 pub use winnow_recovery::parser::NoMemory;
 
@@ -9,6 +8,7 @@ pub use stream_errors::context_error::ContextError;
 pub use stream_errors::control::ControlError;
 pub use stream_errors::convert::{ConvertInput, ErrorConvert};
 pub use stream_errors::empty::EmptyError;
+pub use stream_errors::expected::ExpectedError;
 pub use stream_errors::external::FromExternalError;
 pub use stream_errors::fault::{ParseError, ParseFault};
 pub use stream_errors::growth::OrNoMemory;

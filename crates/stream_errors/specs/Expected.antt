@@ -4,7 +4,7 @@ use Rattle.std.proofs.Common.{ap, refl, inl, inr}
 use Rattle.stream_errors.specs.ContextError.{listed}
 use Rattle.stream_errors.specs.Form.{marked_kind}
 use Rattle.stream_errors.specs.Join.{IsOrMemory, joint_kind}
-use Rattle.stream_expected.specs.declared.expected.ExpectedError.{ExpectedError}
+use Rattle.stream_errors.specs.declared.expected.ExpectedError.{ExpectedError}
 
 -- the items that were expected at the offset of the error, branch by branch
 abbrev pub expected_of : {C A : Type 0} → ExpectedError C A → List C

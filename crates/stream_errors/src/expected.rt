@@ -4,24 +4,24 @@ ghost use Rattle.stream_errors.specs.ContextError.{listed};
 ghost use Rattle.stream_errors.specs.Form.{marked_kind, plain};
 ghost use Rattle.stream_errors.specs.Form.{marked_kind-cases};
 ghost use Rattle.stream_errors.specs.Given.{always_kept, kept_or_refused};
-ghost use Rattle.stream_expected.specs.Expected.{IsGiven, KeepsBoth, expected_of, refused_memory};
-ghost use Rattle.stream_expected.specs.Expected.{within_of};
+ghost use Rattle.stream_errors.specs.Expected.{IsGiven, KeepsBoth, expected_of, refused_memory};
+ghost use Rattle.stream_errors.specs.Expected.{within_of};
 
+use crate::context::AddContext;
+use crate::convert::ErrorConvert;
+use crate::external::FromExternalError;
+use crate::has_kind::HasKind;
+use crate::parser_error::ParserError;
+use crate::recoverable::FromRecoverableError;
 use std::alloc::{Allocator, Global};
 use std::error::Error;
 use std::fmt;
 use std::fmt::{Debug, Display};
-use stream_errors::context::AddContext;
-use stream_errors::convert::ErrorConvert;
-use stream_errors::external::FromExternalError;
-use stream_errors::has_kind::HasKind;
-use stream_errors::parser_error::ParserError;
-use stream_errors::recoverable::FromRecoverableError;
 use streams::needed::Needed;
 use streams::stream::Stream;
 
 /// A plain error that stores the items that several branches expected.
-/// [`ContextError`](stream_errors::context_error::ContextError) stores only the contexts of the
+/// [`ContextError`](crate::context_error::ContextError) stores only the contexts of the
 /// last one. winnow has no such type.
 ///
 /// The first context of an error is the expected item, each later one an outer context. `alt`
@@ -230,7 +230,7 @@ impl<I: Stream, C: Drop, A: Allocator> ParserError<I> for ExpectedError<C, A> {
     ghost plain_kinds = { λ _ e. marked_kind-cases e.is_memory };
 }
 
-#[tactic(auto, using(stream_errors::specs::Given::contexts_kept))]
+#[tactic(auto, using(crate::specs::Given::contexts_kept))]
 impl<I: Stream, C: Drop, A: Allocator> AddContext<I, C, A> for ExpectedError<C, A> {
     ghost context_grows = { true };
 
@@ -295,7 +295,7 @@ impl<I: Stream, C, A: Allocator> FromRecoverableError<I, ExpectedError<C, A>>
 }
 
 /// The expected items, and then the outer contexts, as `expected a switch, a number or a text in a
-/// value`. Without an expected item it prints what [`EmptyError`](stream_errors::empty::EmptyError)
+/// value`. Without an expected item it prints what [`EmptyError`](crate::empty::EmptyError)
 /// does.
 impl<C: Display, A: Allocator> Display for ExpectedError<C, A> {
     fn fmt<W: fmt::Write>(&self, f: &mut fmt::Formatter<W>) -> fmt::Result {

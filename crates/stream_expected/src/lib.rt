@@ -1,4 +1,0 @@
-//! An error that keeps what each branch of a choice expected.
-#![tactic(auto)]
-
-pub mod expected;
