@@ -119,6 +119,7 @@ PAGES = [
         "a_byte_consumes a_choice_consumes deterministic_parts_are_stateless a_value_consumes "
         "spans_are_stateless",
     ),
+    ("laws_prefixes", "Laws of prefixes and first invalid tokens", "laws", "@grammars"),
     ("laws_expressions", "Laws of expressions", "laws", "@winnow_expression_trees"),
     ("laws_combinators", "Laws of combinators", "laws", "*"),
     ("impls_token", "Structs of token parsers", "token::impls", "*"),

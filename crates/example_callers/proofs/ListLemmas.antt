@@ -8,8 +8,8 @@ use Rattle.std.proofs.lemmas.List.Elements.{All-nil}
 use Rattle.winnow.specs.AsChar.{IsDecDigit}
 use Rattle.winnow.specs.Grammar.Inversion.{slice_for}
 use Rattle.winnow.specs.Texts.{AtLeast, BothText, EachText, Members, PartedText, Spelled, Text}
-use Rattle.grammar_prefixes.specs.Prefixes.{FollowedBy, IsPrefixOf, NoneOr}
-use Rattle.grammar_prefixes.specs.Prefixes.Parts.{whole_prefix}
+use Rattle.winnow.specs.Prefixes.{FollowedBy, IsPrefixOf, NoneOr}
+use Rattle.winnow.specs.Prefixes.Parts.{whole_prefix}
 use Rattle.example_callers.specs.Prefixes.{IsListPrefix, IsMarkedPrefix, NumbersText}
 use Rattle.example_callers.specs.Times.{Digits, MarkedText}
 

@@ -5,7 +5,7 @@
 ghost use Rattle.example_callers.specs.Prefixes.{IsDigitOr, IsListPrefix, IsMarkedPrefix};
 ghost use Rattle.example_callers.specs.Prefixes.{IsTimePrefix, NumbersText, SignText};
 ghost use Rattle.example_callers.specs.Times.{Digits, MarkedText, TimeText};
-ghost use Rattle.grammar_prefixes.specs.Prefixes.{IsFirstInvalid, IsPrefixOf, IsPrefixOfMatch};
+ghost use Rattle.winnow.specs.Prefixes.{IsFirstInvalid, IsPrefixOf, IsPrefixOfMatch};
 ghost use Rattle.std.specs.Borrow.{Bor};
 ghost use Rattle.std.specs.List.{All};
 ghost use Rattle.std.specs.Prelude.{◌≡◌, ◌⊎◌, ◌↔◌, ℕ, List, [], ◌∷◌, ◌++◌};
@@ -14,13 +14,11 @@ ghost use Rattle.winnow.specs.Counted.{counted_reading};
 ghost use Rattle.winnow.specs.Grammar.{Class};
 ghost use Rattle.winnow.specs.Texts.{Itself, MadeText, NotFirst, OptionalText};
 
-use grammar_prefixes::laws::first::{
-    first_invalid_after_tokens, first_invalid_in_choices, first_invalid_in_repetitions,
-    first_invalid_in_sequences, the_first_invalid_token_is_unique,
-};
-use grammar_prefixes::laws::{
-    Format, Matches, TokenClass, prefixes_of_choices, prefixes_of_grammars,
-    prefixes_of_mapped_outputs, prefixes_of_repetitions, prefixes_of_sequences, prefixes_of_tokens,
+use winnow::laws::{
+    Format, Matches, TokenClass, first_invalid_after_tokens, first_invalid_in_choices,
+    first_invalid_in_repetitions, first_invalid_in_sequences, prefixes_of_choices,
+    prefixes_of_grammars, prefixes_of_mapped_outputs, prefixes_of_repetitions,
+    prefixes_of_sequences, prefixes_of_tokens, the_first_invalid_token_is_unique,
 };
 
 /// Slices of bytes, as clauses name them.

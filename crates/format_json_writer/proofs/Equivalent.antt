@@ -18,11 +18,11 @@ use Rattle.format_json_texts.specs.Values.Texts.{json_of}
 use Rattle.format_json_texts.specs.declared.value.Value.{Value}
 use Rattle.format_json_values.specs.Unique.{value_unique}
 use Rattle.format_json_writer.specs.Alike.{AreAlike, AreAlikeBy, AreAlikeMembers}
-use Rattle.grammar_outputs.specs.Agreed.{Agrees, between_agrees, either_agrees, former_agrees}
-use Rattle.grammar_outputs.specs.Agreed.{gathered_agree, latter_agrees, means_agree, parted_agree}
-use Rattle.grammar_outputs.specs.Agreed.{same_agrees, sides_agree}
-use Rattle.grammar_outputs.specs.Pairwise.{HaveSameBytes}
-use Rattle.grammar_outputs.specs.Strings.{characters_agree, taken_agrees}
+use Rattle.grammars.specs.Agreed.{Agrees, between_agrees, either_agrees, former_agrees}
+use Rattle.grammars.specs.Agreed.{gathered_agree, latter_agrees, means_agree, parted_agree}
+use Rattle.grammars.specs.Agreed.{same_agrees, sides_agree}
+use Rattle.grammars.specs.Pairwise.{HaveSameBytes}
+use Rattle.grammars.specs.Strings.{characters_agree, taken_agrees}
 use Rattle.grammars.specs.Grammar.{Grammar, InClass, IsUnique}
 use Rattle.grammars.specs.Grammar.Meaning.{Meaning}
 use Rattle.grammars.specs.Grammar.Outputs.{token_of_alike}

@@ -14,7 +14,7 @@ use Rattle.winnow_grammar.specs.InTurn.{First, MatchesEachCompletion, Led, Split
 use Rattle.grammars.specs.Texts.{CountedText, EachText, Text}
 use Rattle.format_resp.specs.Resp.{DataText, Ended, line_end, Shown}
 use Rattle.std.specs.Borrow.{Bor}
-use Rattle.grammar_outputs.specs.Pairwise.{ArePairwise}
+use Rattle.grammars.specs.Pairwise.{ArePairwise}
 
 -- where a value is made of nothing
 pub alone_stood : {T L R : Type 0} {reading : Reading T L} {following : Following T} {i : Input T}

@@ -20,7 +20,7 @@ use Rattle.format_resp.specs.declared.marks.Mark.TheVariants.{Aggregate, Data}
 use Rattle.format_resp.specs.declared.reply.Protocol.{Protocol}
 use Rattle.format_resp.specs.declared.reply.Protocol.TheVariants.{Resp2}
 use Rattle.format_resp.specs.declared.reply.Reply as made
-use Rattle.grammar_outputs.specs.Pairwise.{ArePairwise}
+use Rattle.grammars.specs.Pairwise.{ArePairwise}
 
 module _ {A : Type 0} (protocol : Protocol) (level : ℕ) where
   -- two replies at the start of the same tokens are equivalent, and their rests are equal

@@ -7,7 +7,7 @@ use Rattle.format_resp.specs.Resp.{first_mark, shape_of}
 use Rattle.format_resp.specs.declared.marks.AggregateMark.TheVariants.{Star}
 use Rattle.format_resp.specs.declared.marks.DataMark.TheVariants.{Dollar}
 use Rattle.format_resp.specs.declared.marks.Mark.TheVariants.{Aggregate, Data}
-use Rattle.grammar_outputs.specs.Pairwise.{ArePairwise}
+use Rattle.grammars.specs.Pairwise.{ArePairwise}
 
 module _ {A : Type 0} where
   -- the same bytes, number or boolean, or as many elements, pairwise equivalent

@@ -2,7 +2,7 @@
 use Rattle.std.specs.Prelude.{ℕ, List}
 use Rattle.std.proofs.Common.{inl, inr}
 use Rattle.format_toml.specs.Led.{Led}
-use Rattle.grammar_outputs.specs.Agreed.{Agrees}
+use Rattle.grammars.specs.Agreed.{Agrees}
 use Rattle.grammars.specs.Grammar.{Grammar}
 use Rattle.grammars.specs.Texts.Fronts.{begins_never}
 

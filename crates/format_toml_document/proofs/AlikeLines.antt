@@ -23,11 +23,11 @@ use Rattle.format_toml_document.specs.Alike.{AreAlikeKeys, AreAlikeLines, AreAli
 use Rattle.format_toml_tree.specs.declared.value.Item.{Item}
 use Rattle.format_toml_tree.specs.declared.value.Value.{Value}
 use Rattle.format_toml_tree.specs.declared.value.Value as values
-use Rattle.grammar_outputs.specs.Agreed.{Agrees, between_agrees, former_agrees, gathered_agree}
-use Rattle.grammar_outputs.specs.Agreed.{latter_agrees, means_agree, optional_agrees, parted_agree}
-use Rattle.grammar_outputs.specs.Agreed.{sides_agree}
-use Rattle.grammar_outputs.specs.Pairwise.{ArePairwise}
-use Rattle.grammar_outputs.specs.Strings.{taken_agrees}
+use Rattle.grammars.specs.Agreed.{Agrees, between_agrees, former_agrees, gathered_agree}
+use Rattle.grammars.specs.Agreed.{latter_agrees, means_agree, optional_agrees, parted_agree}
+use Rattle.grammars.specs.Agreed.{sides_agree}
+use Rattle.grammars.specs.Pairwise.{ArePairwise}
+use Rattle.grammars.specs.Strings.{taken_agrees}
 use Rattle.grammars.specs.Grammar.{Grammar, IsUnique}
 use Rattle.grammars.specs.Grammar.Meaning.{Meaning}
 use Rattle.grammars.specs.Grammar.Sequences.{three_unique}

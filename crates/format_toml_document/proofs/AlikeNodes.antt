@@ -4,7 +4,7 @@ use Rattle.std.specs.Prelude.{Result, Ok, Err, string_bytes}
 use Rattle.std.specs.declared.string.String.{String}
 use Rattle.std.proofs.Common.{refl, sym, ap, subst, subst₂, inl, inr, ◌∙◌, arith}
 use Rattle.std.proofs.lemmas.Bool.{cases_lt}
-use Rattle.grammar_outputs.specs.Pairwise.{ArePairwise, HaveSameBytes}
+use Rattle.grammars.specs.Pairwise.{ArePairwise, HaveSameBytes}
 use Rattle.format_toml_document.specs.AlikeTrees.{AreAlikeNodes, AreAlikeTrees, AreAlikeValues}
 use Rattle.format_toml_document.proofs.AlikeValues.{array_across, array_back, closed_alike}
 use Rattle.format_toml_document.proofs.AlikeValues.{table_across, table_back}

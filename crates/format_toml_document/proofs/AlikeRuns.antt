@@ -1,7 +1,7 @@
 -- Proofs that equivalent lines give equivalent trees, or are both rejected.
 use Rattle.std.specs.Prelude.{ℕ, List, [], ◌∷◌, Option, Result, Ok, Err}
 use Rattle.std.proofs.Common.{refl, sym, ap, subst, subst₂, inl, inr}
-use Rattle.grammar_outputs.specs.Pairwise.{ArePairwise}
+use Rattle.grammars.specs.Pairwise.{ArePairwise}
 use Rattle.format_toml_document.specs.Alike.{AreAlikeEntries, AreAlikeItems, AreAlikeKeys}
 use Rattle.format_toml_document.specs.Alike.{AreAlikeLines}
 use Rattle.format_toml_document.specs.AlikeTrees.{AreAlikeNodes, AreAlikeTrees, AreAlikeValues}

@@ -17,11 +17,11 @@ use Rattle.format_toml.specs.declared.characters.Characters.{Characters}
 use Rattle.format_toml.specs.declared.characters.Characters.TheVariants.{Bare, Basic, Literal}
 use Rattle.format_toml_document.proofs.AlikeChoices.{led_agrees}
 use Rattle.format_toml_document.specs.Alike.{AreAlikeKeys}
-use Rattle.grammar_outputs.specs.Agreed.{Agrees, between_agrees, either_agrees, former_agrees}
-use Rattle.grammar_outputs.specs.Agreed.{gathered_agree, latter_agrees, means_agree, parted_agree}
-use Rattle.grammar_outputs.specs.Agreed.{same_agrees}
-use Rattle.grammar_outputs.specs.Pairwise.{ArePairwise, HaveSameBytes}
-use Rattle.grammar_outputs.specs.Strings.{characters_agree}
+use Rattle.grammars.specs.Agreed.{Agrees, between_agrees, either_agrees, former_agrees}
+use Rattle.grammars.specs.Agreed.{gathered_agree, latter_agrees, means_agree, parted_agree}
+use Rattle.grammars.specs.Agreed.{same_agrees}
+use Rattle.grammars.specs.Pairwise.{ArePairwise, HaveSameBytes}
+use Rattle.grammars.specs.Strings.{characters_agree}
 use Rattle.grammars.specs.Grammar.{Grammar, IsUnique, TokenOf}
 use Rattle.grammars.specs.Grammar.Outputs.{literal_alike, token_of_alike}
 use Rattle.grammars.specs.Grammar.Sequences.{three_unique}

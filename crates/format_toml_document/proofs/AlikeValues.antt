@@ -2,7 +2,7 @@
 use Rattle.std.specs.Prelude.{◌≡◌, ℕ, zero, suc}
 use Rattle.std.specs.declared.vec.Vec.{Vec}
 use Rattle.std.proofs.Common.{refl, sym, ap, subst, inl, inr, ◌∙◌, arith}
-use Rattle.grammar_outputs.specs.Pairwise.{ArePairwise, itself_pairwise, more_pairwise}
+use Rattle.grammars.specs.Pairwise.{ArePairwise, itself_pairwise, more_pairwise}
 use Rattle.format_toml_document.specs.Alike.{AreAlike, AreAlikeBy, AreAlikeEntries}
 use Rattle.format_toml_document.specs.Alike.{AreAlikeSingles}
 use Rattle.format_toml_document.specs.AlikeTrees.{AreAlikeValues}

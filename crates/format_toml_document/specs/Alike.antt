@@ -3,7 +3,7 @@
 use Rattle.std.specs.Prelude.{◌≡◌, ◌⊎◌, ⊤, ℕ, zero, suc, Option, Some, None}
 use Rattle.std.specs.declared.vec.Vec.{Vec}
 use Rattle.std.specs.declared.string.String.{String}
-use Rattle.grammar_outputs.specs.Pairwise.{ArePairwise, HaveSameBytes}
+use Rattle.grammars.specs.Pairwise.{ArePairwise, HaveSameBytes}
 use Rattle.format_toml_tree.specs.declared.value.Date.{Date}
 use Rattle.format_toml_tree.specs.declared.value.DateTime.{DateTime}
 use Rattle.format_toml_tree.specs.declared.value.DateTime.TheVariants as moments

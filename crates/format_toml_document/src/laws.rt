@@ -11,7 +11,7 @@ ghost use Rattle.format_toml_tree.specs.Runs.{Gives, Tree as Given, empty};
 ghost use Rattle.format_toml_tree.specs.declared.roles.Reason.{Reason};
 ghost use Rattle.format_toml_tree.specs.declared.tree.Tree.{Tree};
 ghost use Rattle.format_toml_tree.specs.declared.value.Item.{Item};
-ghost use Rattle.grammar_outputs.specs.Pairwise.{ArePairwise};
+ghost use Rattle.grammars.specs.Pairwise.{ArePairwise};
 ghost use Rattle.std.specs.Prelude.{◌≡◌, ◌<◌, ◌^◌, ◌++◌, [], ℕ, List, Option, Result};
 ghost use Rattle.std.specs.Prelude.{length, true};
 ghost use Rattle.std.specs.Str.{IsUtf8, all_scalars};

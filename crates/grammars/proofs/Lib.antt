@@ -1,0 +1,3 @@
+mod PrefixesFirstLemmas
+mod PrefixesPartsLemmas
+mod PrefixesRowsLemmas

@@ -74,8 +74,12 @@ pub use Rattle.stream_sets.specs.Sets
 -- Lines and columns of a text.
 pub use Rattle.text_positions.specs.Excerpt
 pub use Rattle.text_positions.specs.Position
--- Grammars over tokens, and encodings of values: definitions and lemmas.
+-- Grammars over tokens, and encodings of values: definitions, lemmas and laws.
+pub use Rattle.grammars.specs.Agreed
 pub use Rattle.grammars.specs.Grammar
+pub use Rattle.grammars.specs.Pairwise
+pub use Rattle.grammars.specs.Prefixes
+pub use Rattle.grammars.specs.Strings
 pub use Rattle.grammars.specs.Texts
 -- Comparisons of literals with the start of a stream, and searches of a stream for them.
 pub use Rattle.stream_searches.specs.Caseless

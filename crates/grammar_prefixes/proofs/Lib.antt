@@ -1,3 +1,0 @@
-mod PrefixesFirstLemmas
-mod PrefixesPartsLemmas
-mod PrefixesRowsLemmas

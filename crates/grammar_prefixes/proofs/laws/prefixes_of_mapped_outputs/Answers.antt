@@ -1,8 +1,0 @@
-use Rattle.std.specs.Prelude.{◌≡◌}
-use Rattle.std.proofs.Common.{refl}
-use Rattle.grammar_prefixes.proofs.PrefixesPartsLemmas.{made_prefix}
-use Rattle.grammar_prefixes.proofs.laws.prefixes_of_mapped_outputs.Goals as goal
-
-pub returns : goal.returns
-returns g c = λ f front.
-    made_prefix (λ h o u. u ≡ h o) f g.A.Format.text (λ o. (f o, refl)) front

@@ -1,9 +1,0 @@
-use Rattle.grammar_prefixes.specs.Prefixes.Parts.{both_prefix, three_prefix}
-use Rattle.grammar_prefixes.proofs.laws.prefixes_of_sequences.Goals as goal
-
-pub returns : goal.returns
-returns g c = record {
-  two = λ output front. both_prefix output g.A.Format.text g.B.Format.text front;
-  three = λ outer inner front. three_prefix outer inner g.A.Format.text g.B.Format.text
-      g.C.Format.text front;
-}
