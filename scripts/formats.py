@@ -7,7 +7,7 @@ from registry.common import TOP, read
 # The crates of each format. Their dependencies are in `crates.txt`.
 FORMATS = {
     "calculator": ["format_calculator"],
-    "csv": ["format_csv", "format_csv_records", "format_csv_reader"],
+    "csv": ["format_csv", "format_csv_records"],
     "dns": ["format_dns"],
     "http": ["format_http", "format_http_chunked", "format_http_places"],
     "ini": ["readers", "format_ini"],

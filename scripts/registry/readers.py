@@ -15,8 +15,7 @@ READERS = [
     ("lines of one letter", "examples/lines", "yes"),
     ("trees of numbers in brackets", "examples/nested", "yes"),
     ("CSV (RFC 4180)", "format_csv", "no"),
-    ("CSV in any dialect", "format_csv_records", "no"),
-    ("CSV from a reader", "format_csv_reader", "no"),
+    ("CSV in any dialect, also from a reader", "format_csv_records", "no"),
     ("INI files, in any dialect", "format_ini", "no"),
     ("RESP2, RESP3", "format_resp", "yes"),
     ("JSON (RFC 8259): numbers, strings, words", "format_json_scalars", "yes"),
@@ -43,7 +42,7 @@ READERS = [
 ]
 # The table of README.md: formats, their crates, and the proved properties, in its words.
 BRIEF = [
-    ("CSV (RFC 4180)", ["format_csv", "format_csv_records", "format_csv_reader"],
+    ("CSV (RFC 4180)", ["format_csv", "format_csv_records"],
         "exactly; first, incremental"),
     ("DNS", ["format_dns"], "messages"),
     ("formulas", ["format_calculator"], "exactly"),

@@ -4,9 +4,12 @@ pub mod Closing
 pub mod Cuts
 pub mod Early
 pub mod Extents
+pub mod Finding
 pub mod Lanes
 pub mod One
 pub mod Placing
+pub mod Sequence
 pub mod Stepping
+pub mod Telling
 pub mod Whole
 pub mod Writing
