@@ -46,7 +46,7 @@ pub at_end : {T L : Type 0} {reading : Reading T L} {at : Setting} {i j : Input 
 at_end here e =
     record { more = e.cut ∙ here.more; possible = e.ends.possible ∙ here.possible }
 
--- ---- calls of children, and of a whole that is covered
+-- ---- calls of children
 
 pub ran_ends : {S T L O : Type 0} (reading : Reading T L) (does : Does S T O) (form : ErrorForm)
     → LeaveEnds reading (Ran reading does form)
@@ -62,17 +62,6 @@ ran_covers {S} {T} {L} {O} reading does at = record { covers = call }
       record { more = more ∙ here.more; possible = possible ∙ here.possible },
     )
 
-pub covered_ran : {S T L O : Type 0} (reading : Reading T L) {run : Runs S T O}
-    {does : Does S T O} (form : ErrorForm) (s : S) (i : Input T) (answer : Answer O) (t : S)
-    (j : Input T) → IsEndOf reading j i → Covers (setting_of form i) run does
-    → run s i answer t j → Ran reading does form s i answer t j
-covered_ran reading form s i answer t j ends covers ran = (
-  ends,
-  ends.cut,
-  ends.ends.possible,
-  (covers.covers s i answer t j (record { more = refl; possible = refl }) ran).0,
-)
-
 -- a call that leaves its state
 pub kept_ran : {S T L O : Type 0} (reading : Reading T L) (does : Does S T O) (form : ErrorForm)
     (s : S) (i : Input T) (answer : Answer O) (t : S) (j : Input T) → IsEndOf reading j i → t ≡ s
@@ -87,9 +76,6 @@ kept_ran {S} reading does form s i answer t j ends kept did =
 pub at_back : {T : Type 0} {at : Setting} {i m : Input T} → At at i → At at m
     → At at (back_at i.left m)
 at_back here there = record { more = there.more; possible = here.possible }
-
-pub at_same : {T : Type 0} {at : Setting} {i j : Input T} → j ≡ i → At at i → At at j
-at_same {at = at} e here = subst (λ z. At at z) (sym e) here
 
 -- ---- outcomes
 
