@@ -12,7 +12,7 @@ FORMATS = {
     "http": ["format_http", "format_http_chunked", "format_http_places"],
     "ini": ["readers", "format_ini"],
     "json": ["format_json"],
-    "json_extents": ["format_json_extents", "format_json_nodes"],
+    "json_extents": ["format_json_extents"],
     "resp": ["format_resp"],
     "toml": [
         "format_toml_document", "format_toml_errors", "format_toml", "format_toml_tree",

@@ -6,6 +6,8 @@ mod integers;
 #[cfg(test)]
 mod members;
 #[cfg(test)]
+mod nodes;
+#[cfg(test)]
 mod steps;
 #[cfg(test)]
 mod tokens;

@@ -1,6 +1,6 @@
 //! Numbers with a fraction and an exponent: the text, its parts, and the exact decimal.
 
-use format_json_decimals::{Decimal, as_decimal};
+use format_json_texts::decimal::{Decimal, as_decimal};
 use test_support::rows::Modal;
 use winnow::Func;
 use winnow::ascii::impls::{Digit0, Digit1};

@@ -3,8 +3,8 @@ use Rattle.std.proofs.Common.{FitsSigned, ℤ, ℕ, Bool, subst, sym}
 use Rattle.std.specs.Int.{w32}
 use Rattle.std.proofs.lemmas.Int.{to_z-of_z}
 use mir.Val.{of_z, to_z}
-use Rattle.format_json_decimals.specs.Decimals.{IsDecimal}
-use Rattle.format_json_decimals.specs.Numbers.{Number}
+use Rattle.format_json_texts.specs.Decimals.{IsDecimal}
+use Rattle.format_json_texts.specs.NumberParts.{Number}
 
 pub decimal_shown : (n : Number) (negative : Bool) (digits : ℕ) (exponent : ℤ)
     → FitsSigned w32 exponent → IsDecimal n negative digits exponent

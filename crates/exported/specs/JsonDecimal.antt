@@ -1,8 +1,8 @@
 -- Decimals of numbers of JSON, as callers see them.
 use Rattle.std.specs.Prelude.{ℕ, ℤ, pos, Bool, false, List}
-use Rattle.format_json_decimals.specs.Decimals.{Exceeds, IsDecimal}
-use Rattle.format_json_decimals.specs.Numbers.{IsWritten, Number}
-use Rattle.format_json_decimals.specs.declared.decimal.DecimalError.{DecimalError}
+use Rattle.format_json_texts.specs.Decimals.{Exceeds, IsDecimal}
+use Rattle.format_json_texts.specs.NumberParts.{IsWritten, Number}
+use Rattle.format_json_texts.specs.declared.decimal.DecimalError.{DecimalError}
 use Rattle.format_json_extents.specs.Number.{IsNumber}
 use Rattle.format_json_extents.specs.Texts.{IsLongest}
 use Rattle.exported.specs.declared.json.decimal.Decimal.{Decimal}

@@ -39,9 +39,9 @@ pub mod read;
 pub mod write;
 
 pub use fault::{JsonError, JsonWriteError};
-pub use format_json_decimals::decimal::{Decimal, DecimalError};
 pub use format_json_pieces::expected::Expected;
 pub use format_json_pieces::value::{read_next_in_pieces, read_value_in_pieces};
+pub use format_json_texts::decimal::{Decimal, DecimalError};
 pub use format_json_texts::path::Step;
 pub use format_json_texts::value::Value;
 pub use format_json_values::value::SAFE_DEPTH;

@@ -1,11 +1,11 @@
 //! Numbers of values as decimals: a sign, digits and a power of ten.
 ghost use Rattle.std.specs.Prelude.{string_bytes};
-ghost use Rattle.format_json_decimals.specs.Decimals.{Answers};
-ghost use Rattle.format_json_decimals.specs.Numbers.{IsWritten, Number};
+ghost use Rattle.format_json_texts.specs.Decimals.{Answers};
+ghost use Rattle.format_json_texts.specs.NumberParts.{IsWritten, Number};
 ghost use Rattle.format_json_texts.specs.Kinds.{Has};
 ghost use Rattle.format_json_texts.specs.declared.value.Value as values;
 
-use format_json_decimals::{Decimal, DecimalError, decimal};
+use format_json_texts::decimal::{self, Decimal, DecimalError};
 use format_json_texts::value::Value;
 use std::alloc::Allocator;
 

@@ -2,6 +2,12 @@ pub mod Characters
 pub mod Escaped
 pub mod Matching
 pub mod Naming
+pub mod NodeNesting
+pub mod NodeOne
+pub mod NodeOverlay
+pub mod NodeTokens
+pub mod NodeWhole
+pub mod NodeWriting
 pub mod Parts
 pub mod Runs
 pub mod Scalars

@@ -3,8 +3,8 @@ use Rattle.std.proofs.Common.{◌++◌, ◌∙◌, ◌∷◌, ◌≡◌, ◌⊎�
 use Rattle.std.proofs.Common.{inl, inr, pos, refl, subst, sym, true}
 use Rattle.std.specs.Str.Parse.{signed_digits_value}
 use Rattle.std.proofs.lemmas.List.Elements.{All-from_recursion, recursion_from_All}
-use Rattle.format_json_decimals.specs.Numbers as parts
-use Rattle.format_json_decimals.specs.Numbers.{IsWritten, Number, sign_text}
+use Rattle.format_json_texts.specs.NumberParts as parts
+use Rattle.format_json_texts.specs.NumberParts.{IsWritten, Number, sign_text}
 use Rattle.format_json_extents.proofs.Matching.{byte_then, joined, one, same_first, same_rest}
 use Rattle.format_json_extents.proofs.Matching.{this_then}
 use Rattle.format_json_extents.proofs.Written.Numbers.{swap}

@@ -2,6 +2,8 @@
 pub mod Integer
 pub mod Members
 pub mod Names
+pub mod NodeWriting
+pub mod Nodes
 pub mod Number
 pub mod Standard
 pub mod StepLists

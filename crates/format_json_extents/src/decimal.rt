@@ -1,3 +1,3 @@
 //! Numbers of JSON as decimals: a sign, digits and a power of ten.
 
-pub use format_json_decimals::decimal::{Decimal, DecimalError, as_decimal};
+pub use format_json_texts::decimal::{Decimal, DecimalError, as_decimal};

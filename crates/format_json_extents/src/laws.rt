@@ -1,14 +1,16 @@
-//! Laws of the texts that are found: they are those of RFC 8259.
+//! Laws of the texts that are found: they are those of RFC 8259, and have one list of nodes.
 
-ghost use Rattle.format_json_decimals.specs.Numbers.{IsWritten, Number};
+ghost use Rattle.format_json_texts.specs.NumberParts.{IsWritten, Number};
 ghost use Rattle.format_json_extents.specs.Number.{IsNumber};
 ghost use Rattle.format_json_extents.specs.StepLists.{InTurn, StepList, StepsOfText, StepsResult};
 ghost use Rattle.format_json_extents.specs.Value.{IsText, IsValue};
 ghost use Rattle.format_json_texts.specs.Values.{JsonText, ValueText};
 ghost use Rattle.format_json_texts.specs.declared.value.Value.{Value};
-ghost use Rattle.std.specs.Prelude.{◌<◌, ◌^◌, ◌↔◌, ℕ, List, length};
+ghost use Rattle.std.specs.Prelude.{◌<◌, ◌^◌, ◌↔◌, ◌≡◌, ℕ, List, length};
 ghost use Rattle.std.specs.Str.{IsUtf8, chars};
 ghost use Rattle.stream_sets.specs.Accumulator.Holds.{HasCharacters};
+ghost use Rattle.format_json_extents.specs.Nodes.{NodesOfText};
+ghost use Rattle.format_json_extents.specs.declared.node.JsonNode.{JsonNode};
 
 use std::alloc::Allocator;
 
@@ -74,4 +76,17 @@ pub fn steps_in_turn_are_those_of_the_text()
 /// ```
 pub fn numbers_are_written_in_parts()
     ensures { (text : List ℕ) → IsNumber text ↔ ((n : Number) × IsWritten text n) }
+{}
+
+/// A JSON text has one list of nodes by the grammar of values. So the text determines what
+/// [`crate::nodes::write_nodes`] writes.
+///
+/// ```
+/// use format_json_extents::laws::a_text_has_one_list_of_nodes;
+///
+/// a_text_has_one_list_of_nodes();
+/// ```
+pub fn a_text_has_one_list_of_nodes()
+    ensures { (level : ℕ) (text : List ℕ) (one other : List JsonNode) → NodesOfText level one text
+        → NodesOfText level other text → one ≡ other }
 {}

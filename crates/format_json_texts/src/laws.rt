@@ -1,12 +1,15 @@
-//! Laws of the grammars of JSON: what stands by them is what RFC 8259 writes.
+//! Laws of the grammars of JSON: what stands by them is what RFC 8259 writes. Laws of decimals.
 
 ghost use Rattle.format_json_texts.specs.Number.{ContinuesNumber, Number, NumberText};
 ghost use Rattle.format_json_texts.specs.Strings.{Quoted, StringText};
 ghost use Rattle.format_json_texts.specs.Values.{Json, JsonText};
 ghost use Rattle.format_json_texts.specs.Values.Texts.{Ended};
-ghost use Rattle.std.specs.Prelude.{ℕ};
+ghost use Rattle.std.specs.Prelude.{◌≡◌, ◌↔◌, ℕ, Bool, ℤ};
 ghost use Rattle.stream_sets.specs.Accumulator.Holds.{HasCharacters};
 ghost use Rattle.grammars.specs.Texts.{Anything, IsGrammarOf, NotFirst};
+ghost use Rattle.format_json_texts.specs.Decimals.{AreEqual, IsDecimal};
+ghost use Rattle.format_json_texts.specs.NumberParts.{coefficient, scale};
+ghost use Rattle.format_json_texts.specs.NumberParts as parts;
 
 use std::alloc::Allocator;
 
@@ -54,4 +57,33 @@ pub fn strings_are_those_of_the_standard<A: Allocator>()
 pub fn nested_values_are_those_of_the_standard<A: Allocator>()
     ensures { (level : ℕ) → IsGrammarOf (Json {A = A} HasCharacters level)
         (JsonText HasCharacters level) Ended }
+{}
+
+/// A number has one decimal, whether it fits or not. So if
+/// [`as_decimal`](crate::decimal::as_decimal) fails for a number, no sign, digits and power that
+/// fit are a decimal of it.
+///
+/// ```
+/// use format_json_texts::laws::each_number_has_one_decimal;
+///
+/// each_number_has_one_decimal();
+/// ```
+pub fn each_number_has_one_decimal()
+    ensures { (n : parts.Number) (negative sign : Bool) (digits others : ℕ) (exponent power : ℤ)
+        → IsDecimal n negative digits exponent → IsDecimal n sign others power
+        → (negative ≡ sign) × (digits ≡ others) × (exponent ≡ power) }
+{}
+
+/// Two numbers are equal if and only if they have the same decimal: `1.50e3` and `1500` do.
+///
+/// ```
+/// use format_json_texts::laws::equal_numbers_have_the_same_decimal;
+///
+/// equal_numbers_have_the_same_decimal();
+/// ```
+pub fn equal_numbers_have_the_same_decimal()
+    ensures { (n m : parts.Number) (negative sign : Bool) (digits others : ℕ) (exponent power : ℤ)
+        → IsDecimal n negative digits exponent → IsDecimal m sign others power
+        → AreEqual (coefficient n) (scale n) (coefficient m) (scale m)
+        ↔ (negative ≡ sign) × (digits ≡ others) × (exponent ≡ power) }
 {}

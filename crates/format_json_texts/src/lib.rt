@@ -9,11 +9,16 @@
 //! it denotes no character. The grammar of the standard accepts it (section 8.2).
 //!
 //! A [`Value`](value::Value) is the meaning of such a text. Its contents are accessed by kind, by
-//! the names of members and the indices of elements, and along [paths](path).
+//! the names of members and the indices of elements, and along [paths](path). A number also has an
+//! exact [`Decimal`](decimal::Decimal).
 #![tactic(auto)]
 
+mod coefficient;
 mod copies;
+pub mod decimal;
+mod digits;
 mod kinds;
 pub mod laws;
 pub mod path;
+mod power;
 pub mod value;

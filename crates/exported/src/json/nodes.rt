@@ -4,14 +4,14 @@ ghost use Rattle.std.specs.Prelude.{◌≡◌, ◌≤◌, ◌<◌, ◌⊎◌, �
 ghost use Rattle.std.specs.Str.{IsUtf8};
 ghost use Rattle.format_json_extents.specs.Standard.{IsTextByStandard};
 ghost use Rattle.format_json_extents.specs.Value.{IsText};
-ghost use Rattle.format_json_nodes.specs.Nodes.{HasNodes};
+ghost use Rattle.format_json_extents.specs.Nodes.{HasNodes};
 ghost use Rattle.exported.specs.Code.{buffer_too_small, done, invalid, invalid_utf8};
 ghost use Rattle.exported.specs.Code.{max_depth_too_large, supported_depth};
 
 use crate::code::{BUFFER_TOO_SMALL, DONE, INVALID, INVALID_UTF8, MAX_DEPTH_TOO_LARGE};
 use crate::json::MAX_DEPTH;
-pub use format_json_nodes::node::JsonNode;
-use format_json_nodes::nodes::write_nodes;
+pub use format_json_extents::node::JsonNode;
+use format_json_extents::nodes::write_nodes;
 
 /// Checks a text as `exported_json_check` does, and writes all its values as nodes, in one pass and
 /// without allocating.

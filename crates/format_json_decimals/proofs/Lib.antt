@@ -1,6 +1,0 @@
-pub mod Coefficients
-pub mod Equal
-pub mod Going
-pub mod Powers
-pub mod Scaled
-pub mod Tens
