@@ -1,4 +1,4 @@
-//! The tests of values of JSON, with arrays and objects.
+//! The tests of values of JSON, with arrays and objects, and of texts without these.
 #![tactic(auto)]
 
 #[cfg(test)]
@@ -6,6 +6,10 @@ mod integers;
 #[cfg(test)]
 mod level;
 #[cfg(test)]
+mod parts;
+#[cfg(test)]
 mod refused;
+#[cfg(test)]
+mod scalars;
 #[cfg(test)]
 mod values;

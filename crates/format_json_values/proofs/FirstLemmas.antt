@@ -5,7 +5,7 @@ use Rattle.std.proofs.Common.{refl, sym, subst, inl, inr, arith}
 use Rattle.streams.specs.Input.{Input}
 use Rattle.streams.specs.Kind.{Kind}
 use Rattle.streams.specs.Text.{text_reading}
-use Rattle.format_json_scalars.specs.First.{IsNumeric, scalar_of}
+use Rattle.format_json_values.specs.FirstOfScalar.{IsNumeric, scalar_of}
 use Rattle.format_json_texts.specs.Number.{number_begins}
 use Rattle.format_json_texts.specs.Strings.{string_begins}
 use Rattle.format_json_texts.specs.Values.{AnyValue, Array, Gap, HasText, IsArray, IsNumber}

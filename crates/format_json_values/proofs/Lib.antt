@@ -1,1 +1,4 @@
+mod AlikeLemmas
 mod FirstLemmas
+mod FirstOfScalarLemmas
+mod RunsLemmas

@@ -3,8 +3,8 @@ use Rattle.std.specs.Prelude.{◌≡◌, ℕ, zero, suc, true, false, [], ◌∷
 use Rattle.std.proofs.Common.{inl}
 use Rattle.stream_sets.specs.AsChar.{IsMultispace}
 use Rattle.stream_sets.specs.Range.{from_to}
-use Rattle.format_json_scalars.specs.Escapes.{quoted_takes, quoted_unique}
-use Rattle.format_json_scalars.specs.Numbers.{number_takes, number_unique}
+use Rattle.format_json_values.specs.Escapes.{quoted_takes, quoted_unique}
+use Rattle.format_json_values.specs.Numbers.{number_takes, number_unique}
 use Rattle.format_parts.specs.Unique.{char_takes, char_unique, run_unique, word_takes, word_unique}
 use Rattle.format_parts.specs.Words.{former, pair}
 use Rattle.format_json_texts.specs.Values.{AnyValue, AnyWord, Array, Commas, Gap, HasText, IsArray}

@@ -1,4 +1,5 @@
-//! Parsers of JSON values (RFC 8259), including arrays and objects, in text.
+//! Parsers of JSON values (RFC 8259) in text: numbers, strings and words (sections 3, 6 and 7), and
+//! arrays and objects.
 //!
 //! Differences from the standard, and choices where it leaves room:
 //!
@@ -11,6 +12,12 @@
 //! - A byte order mark is not whitespace (section 8.1), so a text that starts with one is rejected.
 #![tactic(auto)]
 
+mod escapes;
 pub mod integer;
+pub mod number;
 mod parts;
+pub mod scalar;
+mod scalar_parts;
+pub mod string;
+mod units;
 pub mod value;

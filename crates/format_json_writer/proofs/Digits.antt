@@ -9,7 +9,7 @@ use Rattle.std.proofs.lemmas.Str.{chars-nil, encodes-chars}
 use Rattle.streams.specs.Equal.{true_is_false}
 use Rattle.streams.specs.Kind.{Kind, memory}
 use Rattle.streams.specs.Text.{text_input, text_reading}
-use Rattle.format_json_scalars.specs.Numbers.{number_unique}
+use Rattle.format_json_values.specs.Numbers.{number_unique}
 use Rattle.format_json_texts.specs.Number.{Number, NumberText, number_of}
 use Rattle.format_parts.specs.Words.{Slice}
 use Rattle.winnow_core.specs.Exact.{Reads}

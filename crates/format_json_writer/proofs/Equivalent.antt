@@ -6,8 +6,8 @@ use Rattle.stream_sets.specs.AsChar.{IsMultispace}
 use Rattle.format_parts.specs.Hexadecimal.{IsAlone, unit_one}
 use Rattle.format_parts.specs.Unique.{char_unique, run_unique, token_one}
 use Rattle.format_parts.specs.Words.{Slice, Word, former, pair}
-use Rattle.format_json_scalars.specs.Escapes.{character_unique, quoted_unique, units_one}
-use Rattle.format_json_scalars.specs.Numbers.{number_unique}
+use Rattle.format_json_values.specs.Escapes.{character_unique, quoted_unique, units_one}
+use Rattle.format_json_values.specs.Numbers.{number_unique}
 use Rattle.format_json_texts.specs.Number.{Number}
 use Rattle.format_json_texts.specs.Strings.{ArePair, Character, IsUnescaped, Quoted}
 use Rattle.format_json_texts.specs.Strings.{StandsFor, Unicode}

@@ -8,7 +8,7 @@ ghost use Rattle.std.specs.Prelude.{◌≡◌, [], false, IfErr, IsTrue, OnOk, s
 ghost use Rattle.std.specs.Str.{chars};
 
 use crate::error::WriteError;
-use format_json_scalars::number::read_number;
+use format_json_values::number::read_number;
 use std::alloc::Allocator;
 
 /// Returns whether the remaining text is empty.

@@ -1,3 +1,0 @@
-mod AlikeLemmas
-mod FirstLemmas
-mod RunsLemmas

@@ -1,4 +1,0 @@
-use Rattle.format_json_scalars.proofs.escapes.read_escape.Goals as goal
-
-pub returns-clause-reads : goal.returns-clause-reads
-returns-clause-reads c = c.read_escape_of.ensures.reads
