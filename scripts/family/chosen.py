@@ -59,6 +59,7 @@ CHOSEN_STRUCT = (
     """//! {about}
 //!
 //! {head}
+#![tactic(auto, using(crate::proofs::OrderLemmas::orders))]
 
 ghost use Rattle.parser_definitions.specs.Integer.{{IntegerDoes}};
 ghost use Rattle.parser_definitions.specs.Projects.Integers.{{integer_meets, integer_terms}};

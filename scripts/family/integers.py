@@ -74,8 +74,7 @@ def function(name, one):
             "where",
             "    Input: StreamIsPartial + ByteStream,",
             "    Error: ParserError<Input>,",
-            "    ensures ran { IntegerRuns %d (%s %s) Input.reading Error.form (Input.view input.old) (answer_by Error.kind result) (Input.view input.new) }" % (one.width, one.value, one.constructor),
-            "    ensures ends { IsEndOf Input.reading (Input.view input.new) (Input.view input.old) }",
+            "    ensures ran { Ran Input.reading (IntegerDoes %d (λ (_ : ⊤). %s %s) Input.reading) Error.form tt (Input.view input.old) (answer_by Error.kind result) tt (Input.view input.new) }" % (one.width, one.value, one.constructor),
             "{",
             "    let bytes = take_bytes::<%d, Input, Error>(input)?;" % one.width,
             "    Ok(%s)" % one.number(),
@@ -87,10 +86,12 @@ def function(name, one):
 FUNCTIONS = """//! Parsers of {first} integers{others}.
 //!
 //! {head}
-#![tactic(auto, using(crate::specs::Integer::Std::integers))]
+#![tactic(auto, using(crate::proofs::IntegerStdLemmas::integers))]
+ghost use Rattle.std.specs.Prelude.{{⊤}};
 ghost use Rattle.stream_errors.specs.Form.{{answer_by}};
-ghost use Rattle.streams.specs.Input.{{IsEndOf}};
-ghost use Rattle.winnow_integers.specs.Integer.{{IntegerRuns, signed_value, unsigned_value}};
+ghost use Rattle.parser_definitions.specs.Does.{{Ran}};
+ghost use Rattle.parser_definitions.specs.Integer.{{IntegerDoes}};
+ghost use Rattle.winnow_integers.specs.Integer.{{signed_value, unsigned_value}};
 ghost use Rattle.winnow_integers.specs.declared.binary.endianness.Endianness.TheVariants.{{{constructor}}};
 
 use crate::binary::bytes::{{signed_24, take_bytes}};
@@ -101,27 +102,29 @@ use streams::stream::StreamIsPartial;
 {family}
 """
 
-# The proof of a function whose width std has, by sign: the value is the one that std computes.
+# The proof of a wide integer: the value is the one that std computes. The prover finds the others.
 ANSWERS = """-- {head}
-use Rattle.std.proofs.Common.{{{rules}}}
+use Rattle.std.proofs.Common.{{rules, ap, ◌∙◌}}
 use Rattle.std.specs.Int.{{w{bits}}}
+use Rattle.winnow_integers.specs.Integer.{{{value}}}
 use Rattle.winnow_integers.specs.Integer.Laws.{{integer_made}}
+use Rattle.winnow_integers.specs.declared.binary.endianness.Endianness.TheVariants.{{{constructor}}}
 use Rattle.winnow_integers.{lemmas}.{{{lemma}}}
 use Rattle.winnow_integers.proofs.binary.{file}.{name}.Goals as goal
 
-pub returns-clause-ran : goal.returns-clause-ran
-returns-clause-ran g c =
-    let bytes = c.in_ok-bytes.bytes in
-    integer_made {width} _ _ _ _ bytes _ _ c.in_ok-bytes.ensures.ran
-    ({value})
+pub returns : goal.returns
+returns g c = record {{
+  ran = integer_made {width} (λ _ bytes. bytes) (λ _. {value} {constructor}) _ _ _ _ _ _ _ _
+      (λ bytes is. {same} ∙ ap ({value} {constructor}) is) c.in_ok-bytes.ensures.ran;
+}}
 """
-VALUES = {
-    "u": "c.from_{order}_bytes.ensures ∙ {lemma} w{bits} bytes (search rules)",
-    "i": "{lemma} w{bits} bytes _ c.from_{order}_bytes.ensures (search rules) (search rules)",
+SAME = {
+    "u": "c.from_{order}_bytes.ensures ∙ {lemma} w{bits} c.in_ok-bytes.bytes (search rules)",
+    "i": "{lemma} w{bits} c.in_ok-bytes.bytes _ c.from_{order}_bytes.ensures (search rules) (search rules)",
 }
 LEMMAS = {"u": "from_%s", "i": "signed_%s"}
 FILES_OF_LEMMAS = {"u": "specs.Integer.Std", "i": "proofs.IntegerStdLemmas"}
-RULES = {"u": "rules, ◌∙◌", "i": "rules"}
+WIDE = {"u": 64, "i": 32}
 
 IMPORTS = """use stream_errors::parser_error::ParserError;
 use streams::byte_stream::ByteStream;
@@ -244,13 +247,11 @@ def write_fixed():
         parts |= {"by": "(λ (_ : ⊤). %s %s)" % (one.value, one.constructor), "below": one.width - 1} | vars(one)
         text = about(one)[0].upper() + about(one)[1:] + "."
         write(FIXED + "src/binary/impls/%s.rt" % name, STRUCT, about=text, name=name, row=row, number=number, **parts)
-        if one.bits not in (8, 24):
+        if one.bits >= WIDE[one.sign]:
             lemma = LEMMAS[one.sign] % one.order
-            value = VALUES[one.sign].format(lemma=lemma, order=one.order, bits=one.bits)
-            parts = {"rules": RULES[one.sign], "lemma": lemma, "value": value}
-            parts["lemmas"] = FILES_OF_LEMMAS[one.sign]
+            same = SAME[one.sign].format(lemma=lemma, order=one.order, bits=one.bits)
             answers = FIXED + "proofs/binary/%s/%s/Answers.antt" % (FILES[one.order], name)
-            write(answers, ANSWERS, file=FILES[one.order], name=name, bits=one.bits, width=one.width, **parts)
+            write(answers, ANSWERS, file=FILES[one.order], name=name, lemma=lemma, same=same, lemmas=FILES_OF_LEMMAS[one.sign], **vars(one))
 
 
 def write_integers():

@@ -1,2 +1,3 @@
 mod LengthAndThenLemmas
 mod LengthTakeLemmas
+mod OrderLemmas

@@ -12,6 +12,7 @@ use Rattle.std.proofs.lemmas.List.Elements.{All-head, All-tail}
 use Rattle.std.proofs.Math.Nat.{mul-le-mul_right, pow-succ'}
 use Rattle.parser_definitions.specs.Integer.{AreBytes}
 use Rattle.winnow_integers.specs.Integer.{signed_of, value_of}
+use Rattle.winnow_integers.specs.Integer.Laws.{integer_made, integer_missing}
 use Rattle.winnow_integers.specs.Integer.Values.{reverse_are_bytes, value_of_fits}
 use mir.Val.{bits, hbits}
 use Rattle.winnow_integers.specs.Integer.Std.{from_be, from_le}
@@ -93,3 +94,6 @@ pub signed_le : (w : Width) (bytes : List ℕ) (z : ℤ) → z ≡ cast_signed w
 signed_le w bytes z is e are =
     answered w (reverse bytes) z (is ∙ ap (cast_signed w) (from_le w bytes e))
     (length-reverse bytes ∙ e) (reverse_are_bytes bytes are)
+
+-- what the proofs of all integers take
+pub ruleset integers = (from_be, from_le, signed_be, signed_le, integer_made, integer_missing)

@@ -1,16 +1,9 @@
 -- Integers as bytes.
-use Rattle.std.specs.Prelude.{◌≡◌, ◌<◌, ◌+◌, ◌-◌, ◌*◌, ◌^◌, ℕ, suc, List, [], ◌∷◌, length}
-use Rattle.std.specs.Prelude.{reverse}
-use Rattle.std.specs.Prelude.{ℤ, pos, ◌-ℤ◌, nat_lt, if◌then◌else◌, Some, Ok, Err, ◌⊎◌}
-use Rattle.streams.specs.Input.{Input, Passes}
-use Rattle.streams.specs.Kind.{Kind}
-use Rattle.streams.specs.Reading.{Reading}
-use Rattle.stream_errors.specs.Form.{ErrorForm, Answer}
-use Rattle.parser_definitions.specs.Integer.{AreBytes}
+use Rattle.std.specs.Prelude.{◌+◌, ◌*◌, ◌^◌, ℕ, suc, List, [], ◌∷◌, length, reverse}
+use Rattle.std.specs.Prelude.{ℤ, pos, ◌-ℤ◌, nat_lt, if◌then◌else◌}
 use Rattle.winnow_integers.specs.declared.binary.endianness.Endianness.{Endianness}
 use Rattle.winnow_integers.specs.declared.binary.endianness.Endianness.TheVariants.{Big, Little}
 use Rattle.winnow_integers.specs.declared.binary.endianness.Endianness.TheVariants.{Native}
-use Rattle.winnow_core.specs.Short.{ShortKind}
 pub mod Laws
 pub mod Reads
 pub mod Std
@@ -43,14 +36,3 @@ unsigned_value order bytes = value_of (highest_first order bytes)
 
 abbrev pub signed_value : Endianness → List ℕ → ℤ
 signed_value order bytes = signed_of (highest_first order bytes)
-
--- A call of the parser of an integer of `width` bytes, with the value that `value` gives for them.
-abbrev pub IntegerRuns : {S O : Type 0} → ℕ → (List ℕ → O) → Reading ℕ S → ErrorForm → Input ℕ
-    → Answer O → Input ℕ → Type 0
-IntegerRuns width value reading form i answer j =
-    -- `width` bytes are passed, and their value is returned
-    ((bytes : List ℕ) × (length bytes ≡ width) × AreBytes bytes × Passes reading bytes i j
-    × (answer ≡ Ok (value bytes)))
-    -- there are too few
-    ⊎ ((k : Kind) × (length i.left.tokens < width)
-    × ShortKind form (Some (width - length i.left.tokens)) i k × (answer ≡ Err k) × (j ≡ i))

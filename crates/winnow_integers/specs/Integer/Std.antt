@@ -7,9 +7,7 @@ use Rattle.std.specs.Int.{from_be_bytes, from_le_bytes}
 use Rattle.std.proofs.Common.{refl, sym, ap, ◌∙◌, arith}
 use Rattle.std.proofs.Math.Nat.{mul_assoc, mul_comm, mul-add, pow-succ'}
 use Rattle.winnow_integers.specs.Integer.{value_of}
-use Rattle.winnow_integers.specs.Integer.Laws.{integer_made, integer_missing}
 use Rattle.winnow_integers.specs.Integer.Values.{value_of_reverse}
-use mir.Val.{bits, hbits}
 
 -- ---- sums
 
@@ -81,6 +79,3 @@ from_be w bytes e = big_sum (byte_len w - 1) bytes e
 pub from_le : (w : Width) (bytes : List ℕ) → length bytes ≡ suc (byte_len w - 1)
     → from_le_bytes w bytes ≡ value_of (reverse bytes)
 from_le w bytes e = little_sum (byte_len w - 1) bytes e
-
--- what the proofs of all integers take
-pub ruleset integers = (from_be, from_le, integer_made, integer_missing)

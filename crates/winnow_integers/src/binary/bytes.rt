@@ -1,10 +1,12 @@
 //! That many bytes.
 #![tactic(auto, using(streams::specs::Ends::ends_follow))]
 
-ghost use Rattle.std.specs.Prelude.{◌≡◌, ◌≤◌, length};
+ghost use Rattle.std.specs.Prelude.{⊤, ◌≡◌, ◌≤◌, length};
 ghost use Rattle.stream_errors.specs.Form.{answer_by};
-ghost use Rattle.streams.specs.Input.{IsEndOf, Passes};
-ghost use Rattle.winnow_integers.specs.Integer.{IntegerRuns, signed_of};
+ghost use Rattle.streams.specs.Input.{Passes};
+ghost use Rattle.parser_definitions.specs.Does.{Ran};
+ghost use Rattle.parser_definitions.specs.Integer.{IntegerDoes};
+ghost use Rattle.winnow_integers.specs.Integer.{signed_of};
 
 use stream_errors::parser_error::ParserError;
 use streams::byte_stream::ByteStream;
@@ -17,9 +19,8 @@ use winnow_core::short::short;
 pub(crate) fn take_bytes<const N: usize, I: StreamIsPartial + ByteStream, E: ParserError<I>>(
     input: &mut I,
 ) -> Result<[u8; N], E>
-    ensures ran { IntegerRuns N (λ bytes. bytes) I.reading E.form (I.view input.old)
-        (answer_by E.kind result) (I.view input.new) }
-    ensures ends { IsEndOf I.reading (I.view input.new) (I.view input.old) }
+    ensures ran { Ran I.reading (IntegerDoes N (λ (_ : ⊤) bytes. bytes) I.reading) E.form tt
+        (I.view input.old) (answer_by E.kind result) tt (I.view input.new) }
 {
     let left = input.eof_offset();
     if left < N {
@@ -32,8 +33,7 @@ pub(crate) fn take_bytes<const N: usize, I: StreamIsPartial + ByteStream, E: Par
 #[inline(always)]
 fn next_bytes<const N: usize, I: ByteStream>(input: &mut I) -> [u8; N]
     requires { N ≤ length (I.view input.old).left.tokens }
-    ensures passes { Passes I.reading result (I.view input.old) (I.view input.new) }
-    ensures ends { IsEndOf I.reading (I.view input.new) (I.view input.old) }
+    ensures { Passes I.reading result (I.view input.old) (I.view input.new) }
 {
     let mut bytes = [0; N];
     for place in 0..N {
