@@ -5,7 +5,8 @@ use Rattle.stream_errors.specs.Form.{Answer}
 use Rattle.streams.specs.Input.{Input}
 use Rattle.streams.specs.Kind.{Kind}
 use Rattle.winnow_expression.specs.Units.{units_left}
-use Rattle.winnow_expression.specs.Calls.{Call, Open, call_at}
+use Rattle.winnow_expression.specs.Calls.{Open}
+use Rattle.parser_definitions.specs.Expression.{Call, call_at}
 use Rattle.winnow_expression.specs.Expression.{ExpressionRuns}
 use Rattle.winnow_expression.specs.Grammar.{Grammar, CallEnds, Closes, Infixes, Postfixes, Prefixes}
 use Rattle.winnow_expression.specs.Grammar.{TurnEnds}

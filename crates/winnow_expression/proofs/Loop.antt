@@ -6,7 +6,8 @@ use Rattle.streams.specs.Input.{Input}
 use Rattle.winnow_expression.specs.Units.{units_left}
 use Rattle.winnow_expression.specs.Expression.{TreeRuns, TailRuns, JoinedRuns}
 use Rattle.winnow_expression.specs.Grammar.{Grammar}
-use Rattle.winnow_expression.specs.Calls.{Call, Calls, Open}
+use Rattle.winnow_expression.specs.Calls.{Calls, Open}
+use Rattle.parser_definitions.specs.Expression.{Call}
 use Rattle.winnow_expression.specs.declared.combinator.calls.Operator.{Operator}
 use Rattle.winnow_expression.specs.declared.combinator.calls.Operator.TheVariants.{Prefix, Infix}
 

@@ -2,7 +2,8 @@
 use Rattle.std.proofs.Common.{◌≡◌, ◌≤◌, ◌<◌, ◌+◌, ◌⊎◌, ℕ, Option, Some, None, List, [], ◌∷◌}
 use Rattle.std.proofs.Common.{length}
 use Rattle.std.proofs.Common.{arith, inl, inr, refl, suc, subst, sym}
-use Rattle.winnow_expression.specs.Calls.{Call, Open}
+use Rattle.winnow_expression.specs.Calls.{Open}
+use Rattle.parser_definitions.specs.Expression.{Call}
 use Rattle.winnow_expression.specs.declared.combinator.calls.Operator.{Operator}
 use Rattle.winnow_expression.specs.declared.combinator.calls.Operator.TheVariants.{Prefix, Infix}
 use Rattle.winnow_expression.proofs.Loop.{RightOperandStarts, Nested, above, live}

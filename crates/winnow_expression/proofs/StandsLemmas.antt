@@ -6,7 +6,8 @@ use Rattle.std.proofs.lemmas.Bool.{cases_lt}
 use Rattle.stream_errors.specs.Form.{Answer}
 use Rattle.streams.specs.Input.{Input}
 use Rattle.winnow_expression.specs.Units.{units_left}
-use Rattle.winnow_expression.specs.Calls.{Call, Calls, Interrupts, Open, call_at}
+use Rattle.winnow_expression.specs.Calls.{Calls, Interrupts, Open}
+use Rattle.parser_definitions.specs.Expression.{Call, call_at}
 use Rattle.winnow_expression.specs.Grammar.{Folding, Grammar, Closes}
 use Rattle.winnow_expression.specs.Machine.{OperandStep, PrefixedOperand, TurnStep, operand_fails}
 use Rattle.winnow_expression.specs.Machine.{operand_read, after_prefix}

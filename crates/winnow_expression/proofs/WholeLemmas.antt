@@ -7,7 +7,8 @@ use Rattle.streams.specs.Input.{Input}
 use Rattle.streams.specs.Kind.{Kind}
 use Rattle.winnow_core.specs.Runs.{Runs}
 use Rattle.winnow_expression.specs.Units.{units_left}
-use Rattle.winnow_expression.specs.Calls.{Call, Calls, Open, call_at}
+use Rattle.winnow_expression.specs.Calls.{Calls, Open}
+use Rattle.parser_definitions.specs.Expression.{Call, call_at}
 use Rattle.winnow_expression.specs.Expression.{TreeRuns, ExpressionRuns}
 use Rattle.winnow_expression.specs.Grammar.{Grammar, CallEnds, Closes}
 use Rattle.winnow_expression.specs.Machine.{AllEnd, OperandStep, PrefixedOperand, TurnStep}

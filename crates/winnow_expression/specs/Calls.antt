@@ -1,22 +1,12 @@
 -- Calls, and the operators that interrupt them.
 use Rattle.std.specs.Prelude.{◌≡◌, ◌+ℤ◌, ℕ, ℤ, pos, Option, Some, None, List, [], ◌∷◌, ◌++◌, map}
+use Rattle.parser_definitions.specs.Expression.{Call, call_at}
 use Rattle.winnow_expression.specs.declared.combinator.calls.Call.{Call as KeptCall}
 use Rattle.winnow_expression.specs.declared.combinator.calls.Open.{Open as KeptOpen}
 use Rattle.winnow_expression.specs.declared.combinator.calls.Operator.{Operator}
 use Rattle.winnow_expression.specs.declared.combinator.calls.Refuses.{Refuses}
 use Rattle.winnow_expression.specs.declared.combinator.calls.Refuses.TheVariants.{Nothing, Neither}
 use Rattle.winnow_expression.specs.declared.combinator.calls.Refuses.TheVariants.{All}
-
--- A call: an expression, or the right operand of an operator.
-pub record Call : Type 0 where
-  -- the least power of its operators
-  pub least : ℤ
-  -- the number of units that remained where it began
-  pub began : ℕ
-  -- the number of units that remained where its present turn began
-  pub turn : ℕ
-  -- the power of the last infix, if that was a neither
-  pub neither : Option ℤ
 
 -- An operator whose right operand is read next, and the call that it interrupts.
 pub record Open (V F H : Type 0) : Type 0 where
@@ -64,10 +54,6 @@ opens_of xs = map open_of xs
 
 abbrev pub calls_of : {V F H : Type 0} → KeptCall → List (KeptOpen V F H) → Calls V F H
 calls_of call xs = record { present = call_of call; opened = opens_of xs }
-
--- a call that begins where `units` units remain
-abbrev pub call_at : ℤ → ℕ → Call
-call_at least units = record { least = least; began = units; turn = units; neither = None }
 
 -- a call after an infix whose turn began where `units` units remained
 abbrev pub with_infix : Call → ℕ → Option ℤ → Call

@@ -11,7 +11,6 @@ use Rattle.parser_definitions.specs.Then.{ComesOf}
 use Rattle.parser_definitions.specs.Then.Steps.{hands_on}
 pub mod Parts
 pub mod Steps
-pub mod Trees
 
 -- ---- inputs of a setting
 

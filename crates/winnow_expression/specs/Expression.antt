@@ -4,7 +4,8 @@ use Rattle.stream_errors.specs.Form.{Answer}
 use Rattle.streams.specs.Input.{Input}
 use Rattle.streams.specs.Kind.{Kind}
 use Rattle.winnow_core.specs.Runs.{Runs}
-use Rattle.winnow_expression.specs.Calls.{Call, Open, call_at}
+use Rattle.winnow_expression.specs.Calls.{Open}
+use Rattle.parser_definitions.specs.Expression.{Call, call_at}
 use Rattle.winnow_expression.specs.Grammar.{CallEnds, Grammar, Infixes, Postfixes, Prefixes}
 use Rattle.winnow_expression.specs.Grammar.{ResumeEnds, ResumeGoes, TurnEnds}
 use Rattle.winnow_expression.specs.Units.{units_left}

@@ -1,11 +1,14 @@
 -- What a call has read: the tree before the next operator, and why it fails.
 use Rattle.std.specs.Prelude.{◌≡◌, ◌⊎◌, ◌≤ℤ◌, ℤ, Bool, true, false, Some, Ok, Err}
 use Rattle.std.proofs.Common.{sym, subst, inl, inr}
-use Rattle.stream_errors.specs.Form.{Answer}
 use Rattle.streams.specs.Input.{Input}
-use Rattle.streams.specs.Kind.{Kind, memory}
+use Rattle.streams.specs.Kind.{Kind, backtrack, cut, incomplete, memory}
+use Rattle.parser_definitions.specs.Left.{End}
+use Rattle.parser_definitions.specs.Outcome.{Outcome as CallOutcome, Setting, asks, backs, cuts}
+use Rattle.parser_definitions.specs.Outcome.{outcome_of, took, wants}
+use Rattle.winnow_expression.specs.Did.{here}
 use Rattle.winnow_expression.specs.Units.{units_left}
-use Rattle.winnow_expression.specs.Calls.{Call}
+use Rattle.parser_definitions.specs.Expression.{Call}
 use Rattle.winnow_expression.specs.Grammar.{Grammar}
 use Rattle.winnow_expression.specs.Operators.{fold_of}
 use Rattle.winnow_expression.specs.declared.combinator.places.First.{First}
@@ -111,11 +114,15 @@ module _ {S W T V F G H : Type 0} {g : Grammar S W T V F G H} {alike : V → V �
         × ((r : Tree V F G H) (n : Input T) (b : Bool) (x : V) → Reads first next m at r n b
         → Value g r x → ⊥))
 
-    -- The result of the call: the value of a tree that respects precedence, or such a failure.
-    abbrev pub Told : ℤ → Input T → Answer (V × Bool) → S × W → Input T → Type 0
-    Told m at (Ok x) t j =
-        Kept t × (r : Tree V F G H) × Over first next r at j × Keeps next m r j x.1 × Value g r x.0
-    Told m at (Err k) t j = (k ≡ memory → ⊥) → Fails m at k j
+    -- The outcome of the call: the value of a tree that respects precedence, or such a failure.
+    abbrev pub Told : Setting → ℤ → Input T → CallOutcome (End (S × W × ℤ) T) (V × Bool) → Type 0
+    Told at m i (took x e) =
+        Kept (e.0.0, e.0.1) × (r : Tree V F G H) × Over first next r i (here at e.1)
+        × Keeps next m r (here at e.1) x.1 × Value g r x.0
+    Told at m i (backs e) = Fails m i backtrack (here at e.1)
+    Told at m i (cuts e) = Fails m i cut (here at e.1)
+    Told at m i (asks need e) = Fails m i (incomplete need) (here at e.1)
+    Told at m i wants = Unit {0}
 
     -- A left operand that the call has read. It respects precedence so far, no operator that may be
     -- read next binds within its right edge, and it has a value. Each tree that the call may read
@@ -155,29 +162,36 @@ module _ {S W T V F G H : Type 0} {g : Grammar S W T V F G H} {alike : V → V �
     left_takes call at left i n x p known read is reaches =
         (known.binds, known.reaches, reaches, known.above x n read p is)
 
-    pub failed : (m : ℤ) (at : Input T) (a : Answer (V × Bool)) (k : Kind) (t : S × W)
-        (j : Input T) → a ≡ Err k → ((k ≡ memory → ⊥) → Fails m at k j) → Told m at a t j
-    failed m at a k t j e why = subst (λ z. Told m at z t j) (sym e) why
+    pub failed : (at : Setting) (m : ℤ) (i : Input T) (k : Kind) (e : End (S × W × ℤ) T)
+        {y : CallOutcome (End (S × W × ℤ) T) (V × Bool)} → y ≡ outcome_of (Err k) e
+        → ((k ≡ memory → ⊥) → Fails m i k (here at e.1)) → Told at m i y
+    failed at m i k e is why = subst (λ z. Told at m i z) (sym is) (by k why)
+      where
+        by : (k : Kind) → ((k ≡ memory → ⊥) → Fails m i k (here at e.1))
+            → Told at m i (outcome_of (Err k) e)
+        by backtrack why = why (λ e. cc)
+        by cut why = why (λ e. cc)
+        by (incomplete need) why = why (λ e. cc)
+        by memory why = tt
 
     -- the call ends before the next operator
-    pub stops : (call : Call) (at : Input T) (left : V) (i : Input T)
-        (known : IsLeft call at left i)
-        (x : Next G H) (n j : Input T) (all : Bool) (a : Answer (V × Bool)) (t : S × W)
-        → next i x n → Outcome all call.least known.tree x → j ≡ i → a ≡ Ok (left, all) → Kept t
-        → Told call.least at a t j
-    stops call at left i known x n j all a t read outcome place e kept =
-        subst (λ z. Told call.least at z t j) (sym e)
-        (subst (λ k. Told call.least at (Ok (left, all)) t k) (sym place) (
+    pub stops : (at : Setting) (call : Call) (start_ : Input T) (left : V) (i : Input T)
+        (known : IsLeft call start_ left i) (x : Next G H) (n : Input T) (all : Bool)
+        (e : End (S × W × ℤ) T) {y : CallOutcome (End (S × W × ℤ) T) (V × Bool)}
+        → y ≡ took (left, all) e → next i x n → Outcome all call.least known.tree x
+        → here at e.1 ≡ i → Kept (e.0.0, e.0.1) → Told at call.least start_ y
+    stops at call start_ left i known x n all e is read outcome place kept =
+        subst (λ z. Told at call.least start_ z) (sym is) (
           kept,
           known.tree,
-          known.over,
+          subst (λ k. Over first next known.tree start_ k) (sym place) known.over,
           record {
             binds = known.binds;
             reaches = known.reaches;
             then_read = x;
             then_at = n;
-            reads = read;
+            reads = subst (λ k. next k x n) (sym place) read;
             ends = outcome;
           },
           known.value,
-        ))
+        )

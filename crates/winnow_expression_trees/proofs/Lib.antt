@@ -1,3 +1,4 @@
+pub mod Accepts
 pub mod EndsOnce
 pub mod FourParts
 pub mod Left
@@ -6,6 +7,7 @@ pub mod Over
 pub mod Plain
 pub mod PremisesDecidedLemmas
 pub mod PremisesLemmas
+pub mod TellsEnds
 pub mod Told
 pub mod Whole
 pub mod Within

@@ -6,7 +6,8 @@ use Rattle.stream_errors.specs.Form.Inversion.{ok_is_err, same_kind}
 use Rattle.streams.specs.Input.{Input}
 use Rattle.streams.specs.Kind.{Kind, memory}
 use Rattle.winnow_expression.specs.Units.{units_left}
-use Rattle.winnow_expression.specs.Calls.{Call, Open}
+use Rattle.winnow_expression.specs.Calls.{Open}
+use Rattle.parser_definitions.specs.Expression.{Call}
 use Rattle.winnow_expression.specs.Operators.{fold_of, left_power, neither_power, right_power}
 use Rattle.winnow_expression.specs.Grammar.{Grammar, Closes}
 use Rattle.winnow_expression.specs.declared.combinator.operators.Infix.{Infix}

@@ -1,383 +1,316 @@
--- Runs over parts and folds that do less: which of them are runs over others, and how they fail.
-use Rattle.std.specs.Prelude.{◌≡◌, ◌⊎◌, ℕ, ℤ, Bool, Ok, Err, IsOk, ⊤}
-use Rattle.std.proofs.Common.{refl, sym, ◌∙◌, subst, inl, inr}
-use Rattle.stream_errors.specs.Form.{Answer}
-use Rattle.stream_errors.specs.Form.Inversion.{ok_is_err, same_err, same_kind}
-use Rattle.streams.specs.Input.{Input}
-use Rattle.streams.specs.Kind.{Kind, memory}
-use Rattle.winnow_core.specs.Runs.{Runs}
-use Rattle.winnow_expression.specs.Calls.{Call, Open, call_at}
-use Rattle.winnow_expression.specs.Expression.{TreeRuns, TailRuns, JoinedRuns, call_ends}
-use Rattle.winnow_expression.specs.Expression.{LeveledRuns}
-use Rattle.winnow_expression.specs.Expression.{call_operand, call_prefix}
-use Rattle.winnow_expression.specs.Expression.{turn_ends, turn_postfix, turn_infix, resume_ends}
-use Rattle.winnow_expression.specs.Expression.{resume_goes}
-use Rattle.winnow_expression.specs.Grammar.{Grammar, Closes, TurnEnds, folding, grammar}
-use Rattle.winnow_expression.specs.Units.{units_left}
-use Rattle.winnow_expression.specs.declared.combinator.calls.Operator.{Operator}
-use Rattle.winnow_expression.specs.declared.combinator.calls.Operator.TheVariants.{
-  Prefix as prefix_open,
-}
-use Rattle.winnow_expression.specs.declared.combinator.calls.Operator.TheVariants.{
-  Infix as infix_open,
-}
-use Rattle.winnow_expression.specs.declared.combinator.places.First.{First}
-use Rattle.winnow_expression.specs.declared.combinator.places.Next.{Next}
-use Rattle.winnow_expression_trees.specs.Accepting.{FoldAnswers, FoldFails, accepting}
-use Rattle.winnow_expression_trees.specs.Accepting.{asserting}
+-- Trees over other parts and folds: which outcomes they have too, and how they fail.
+use Rattle.std.specs.Prelude.{◌≡◌, ◌⊎◌, ⊤, ℕ, ℤ, Bool, true, false, Option, Some, None}
+use Rattle.std.proofs.Common.{sym, subst, inl, inr}
+use Rattle.stream_errors.specs.Form.{ErrorForm, assert_kind, modal, plain}
+use Rattle.streams.specs.Kind.{Kind, backtrack, cut, incomplete, memory}
+use Rattle.parser_definitions.specs.Expression.{Binary, Call, FoldsOpen, JoinDoes, JoinEnds, Open}
+use Rattle.parser_definitions.specs.Expression.{Operators, TailDoes, TreeDoes, TreesDo, Unary}
+use Rattle.parser_definitions.specs.Expression.{all_end, call_at, checked, fails_as, first_last}
+use Rattle.parser_definitions.specs.Expression.{join_ends, join_goes, next_last, opened, tail_ends}
+use Rattle.parser_definitions.specs.Expression.{tail_infix, tail_postfix, tree_ends, tree_operand}
+use Rattle.parser_definitions.specs.Expression.{tree_prefix, tree_value}
+use Rattle.parser_definitions.specs.Left.{End, Left}
+use Rattle.parser_definitions.specs.Outcome.{Does, Outcome, Setting, asks, backs, cuts}
+use Rattle.parser_definitions.specs.Outcome.{misused_by, took, wants}
+use Rattle.parser_definitions.specs.Then.{ComesOf, Then}
+use Rattle.parser_definitions.specs.Then.Steps.{instead, same, where_took}
 
-module _ {S W T V F G H : Type 0} (g : Grammar S W T V F G H) (first : Runs S T (First V F))
-    (next : Runs W T (Next G H)) (behind : G → Input T → V → Answer V → Input T → Type 0)
-    (before : F → Input T → V → Answer V → Input T → Type 0)
-    (between : H → Input T → V → V → Answer V → Input T → Type 0) (Allowed : Kind → Type 0)
-    (Refused : Kind → Input T → Type 0) where
-  abbrev other : Grammar S W T V F G H
-  other = grammar first next behind
-      (folding before between g.folding.units g.folding.refusal)
+-- a failure has a kind that is allowed
+abbrev pub Fine : {L O : Type 0} → (Kind → Type 0) → Outcome L O → Type 0
+Fine allowed (took o l) = ⊤
+Fine allowed (backs l) = allowed backtrack
+Fine allowed (cuts l) = allowed cut
+Fine allowed (asks need l) = allowed (incomplete need)
+Fine allowed wants = ⊤
 
-  -- a failure has a kind that is allowed
-  abbrev Fine : {O : Type 0} → Answer O → Type 0
-  Fine a = (k : Kind) → a ≡ Err k → Allowed k
+-- The outcome is a failure that the other folds do not have.
+abbrev pub Ends : {T L O : Type 0} → (Kind → Left T → Type 0) → (L → Left T) → Outcome L O → Type 0
+Ends refused of (took o l) = ⊥
+Ends refused of (backs l) = refused backtrack (of l)
+Ends refused of (cuts l) = refused cut (of l)
+Ends refused of (asks need l) = refused (incomplete need) (of l)
+Ends {T} refused of wants = (l : Left T) × refused memory l
 
-  -- the result is a failure that the other folds do not have
-  abbrev Ends : {O : Type 0} → Answer O → Input T → Type 0
-  Ends a j = (k : Kind) × (a ≡ Err k) × Refused k j
+module _ {Q T V X Y Z : Type 0} (g : Operators T V X Y Z) (one other_one : Does Q T (V ⊎ X))
+    (two other_two : Does Q T (Option (Y ⊎ Z))) (before : Unary X T V) (behind : Unary Y T V)
+    (between : Binary Z T V) (at : Setting) (Allowed : Kind → Type 0)
+    (Refused : Kind → Left T → Type 0) where
+  abbrev other : Operators T V X Y Z
+  other = record g { before = before; behind = behind; between = between }
 
-  -- The steps of `g` are steps of the other grammar, and fail with an allowed kind, but for folds
-  -- that fail otherwise.
+  abbrev Folded : (R M : Outcome (Left T) V → Type 0) → Type 0
+  Folded R M = (z : Outcome (Left T) V) → R z → (M z × Fine Allowed z) ⊎ Ends Refused (λ l. l) z
+
+  -- The outcomes of parts and folds are those of the others, and fail with an allowed kind, but for
+  -- folds that fail otherwise.
   pub record Maps : Type 0 where
-    pub firsts : (s : S) (i : Input T) (a : Answer (First V F)) (t : S) (j : Input T)
-        → g.first s i a t j → first s i a t j × Fine a
-    pub nexts : (s : W) (i : Input T) (a : Answer (Next G H)) (t : W) (j : Input T)
-        → g.next s i a t j → next s i a t j × Fine a
-    pub behinds : (f : G) (i : Input T) (v : V) (a : Answer V) (j : Input T)
-        → g.behind f i v a j → (behind f i v a j × Fine a) ⊎ Ends a j
-    pub befores : (f : F) (i : Input T) (v : V) (a : Answer V) (j : Input T)
-        → g.folding.before f i v a j → (before f i v a j × Fine a) ⊎ Ends a j
-    pub betweens : (f : H) (i : Input T) (v w : V) (a : Answer V) (j : Input T)
-        → g.folding.between f i v w a j → (between f i v w a j × Fine a) ⊎ Ends a j
-    pub refusals : Allowed g.folding.refusal
-    pub memories : Allowed memory
+    pub firsts : (q : Q) (w : Left T) (y : Outcome (End Q T) (V ⊎ X)) → one at q w y
+        → other_one at q w y × Fine Allowed y
+    pub nexts : (q : Q) (w : Left T) (y : Outcome (End Q T) (Option (Y ⊎ Z))) → two at q w y
+        → other_two at q w y × Fine Allowed y
+    pub befores : (x : X) (m : Left T) (v : V)
+        → Folded (λ z. g.before at x m v z) (λ z. before at x m v z)
+    pub behinds : (p : Y) (m : Left T) (v : V)
+        → Folded (λ z. g.behind at p m v z) (λ z. behind at p m v z)
+    pub betweens : (o : Z) (m : Left T) (v r : V)
+        → Folded (λ z. g.between at o m v r z) (λ z. between at o m v r z)
+    pub misuses : Allowed (assert_kind at.form)
 
   module _ (up : Maps) where
-    fine : {O : Type 0} {a : Answer O} {v : O} → a ≡ Ok v → Fine a
-    fine e k is = ok_is_err e is
+    fine_as : {L O : Type 0} {y z : Outcome L O} → y ≡ z → Fine Allowed z → Fine Allowed y
+    fine_as e fine = subst (λ x. Fine Allowed x) (sym e) fine
 
-    by : {O : Type 0} {a : Answer O} {l : Kind} → a ≡ Err l → Allowed l → Fine a
-    by e told k is = subst (λ z. Allowed z) (same_err e is) told
+    ends_as : {L O : Type 0} (of : L → Left T) {y z : Outcome L O} → y ≡ z → Ends Refused of z → Ends Refused of y
+    ends_as of e ends = subst (λ x. Ends Refused of x) (sym e) ends
 
-    closes_maps : (x : Operator V F H) (turn : ℕ) (i : Input T) (right : V) (a : Answer V)
-        (j : Input T) → Closes g.folding x turn i right a j
-        → (Closes other.folding x turn i right a j × Fine a) ⊎ Ends a j
-    closes_maps (prefix_open fold) turn i right a j folded = up.befores fold i right a j folded
-    closes_maps (infix_open left fold) turn i right a j (inl (kind, folded, e)) =
-        elim (up.betweens fold i left right (Err kind) j folded) [
-          | inl (more, told) ↦ inl (inl (kind, more, e), by e (told kind refl))
-          | inr (k, is, refused) ↦ inr (k, e ∙ is, refused)
-        ]
-    closes_maps (infix_open left fold) turn i right a j (inr (inl (v, folded, same, e))) =
-        elim (up.betweens fold i left right (Ok v) j folded) [
-          | inl (more, told) ↦ inl (inr (inl (v, more, same, e)), by e up.refusals)
-          | inr (k, is, refused) ↦ ok_is_err refl is
-        ]
-    closes_maps (infix_open left fold) turn i right a j (inr (inr (v, folded, moved, e))) =
-        elim (up.betweens fold i left right (Ok v) j folded) [
-          | inl (more, told) ↦ inl (inr (inr (v, more, moved, e)), fine e)
-          | inr (k, is, refused) ↦ ok_is_err refl is
-        ]
+    misused_fine : {L : Type 0} (O : Type 0) (l : L) → Fine {O = O} Allowed (misused_by at.form l)
+    misused_fine O l = by at.form up.misuses
+      where
+        by : (form : ErrorForm) → Allowed (assert_kind form) → Fine {O = O} Allowed (misused_by form l)
+        by modal told = told
+        by plain told = told
 
-    turn_ends_maps : (call : Call) (left : V) (s t : W) (i j : Input T) (a : Answer (V × Bool))
-        → TurnEnds F g.folding.units g.next g.behind g.folding.refusal call left s i a t j
-        → (TurnEnds F g.folding.units next behind g.folding.refusal call left s i a t j × Fine a)
-        ⊎ Ends a j
-    turn_ends_maps call left s t i j a (inl (r, e)) =
-        inl (inl ((up.nexts s i _ t j r).0, e), fine e)
-    turn_ends_maps call left s t i j a (inr (inl (kind, r, e))) =
-        let (more, told) = up.nexts s i (Err kind) t j r in
-        inl (inr (inl (kind, more, e)), by e (told kind refl))
-    turn_ends_maps call left s t i j a (inr (inr (inl (power, fold, m, r, below, back, e)))) =
-        inl (inr (inr (inl (power, fold, m, (up.nexts s i _ t m r).0, below, back, e))), fine e)
-    turn_ends_maps call left s t i j a
-        (inr (inr (inr (inl (power, fold, m, kind, r, reaches, folded, e))))) =
-        elim (up.behinds fold m left (Err kind) j folded) [
-          | inl (more, told) ↦ inl (
-            inr (inr (inr
-                (inl (power, fold, m, kind, (up.nexts s i _ t m r).0, reaches, more, e)))),
-            by e (told kind refl),
-          )
-          | inr (k, is, refused) ↦ inr (k, subst (λ z. a ≡ Err z) (same_kind is) e, refused)
+    -- ---- folds
+
+    checked_fine : (turn : ℕ) (u z : Outcome (Left T) V) → Fine Allowed u → checked g.units turn at u z
+        → Fine Allowed z
+    checked_fine turn (took v k) z fine (inl (still, e)) = fine_as e (misused_fine V k)
+    checked_fine turn (took v k) z fine (inr (moved, e)) = fine_as e tt
+    checked_fine turn (backs k) z fine e = fine_as e fine
+    checked_fine turn (cuts k) z fine e = fine_as e fine
+    checked_fine turn (asks need k) z fine e = fine_as e fine
+    checked_fine turn wants z fine e = fine_as e fine
+
+    checked_ends : (turn : ℕ) (u z : Outcome (Left T) V) → Ends Refused (λ l. l) u
+        → checked g.units turn at u z → Ends Refused (λ l. l) z
+    checked_ends turn (took v k) z ends c = absurd ends
+    checked_ends turn (backs k) z ends e = ends_as (λ l. l) e ends
+    checked_ends turn (cuts k) z ends e = ends_as (λ l. l) e ends
+    checked_ends turn (asks need k) z ends e = ends_as (λ l. l) e ends
+    checked_ends turn wants z ends e = ends_as (λ l. l) e ends
+
+    -- of a turn that is to consume something
+    turn_maps : (turn : ℕ) (R M : Outcome (Left T) V → Type 0) → Folded R M
+        → Folded (λ z. (u : Outcome (Left T) V) × R u × checked g.units turn at u z)
+        (λ z. (u : Outcome (Left T) V) × M u × checked g.units turn at u z)
+    turn_maps turn R M folds z (u, f, c) = elim (folds u f) [
+      | inl (more, fine) ↦ inl ((u, more, c), checked_fine turn u z fine c)
+      | inr ends ↦ inr (checked_ends turn u z ends c)
+    ]
+
+    open_maps : (x : X ⊎ (V × Z)) (turn : ℕ) (m : Left T) (v : V)
+        → Folded (λ z. FoldsOpen g at x turn m v z) (λ z. FoldsOpen other at x turn m v z)
+    open_maps (inl x) turn m v z f = up.befores x m v z f
+    open_maps (inr o) turn m v z f =
+        turn_maps turn (λ u. g.between at o.1 m o.0 v u) (λ u. between at o.1 m o.0 v u)
+        (up.betweens o.1 m o.0 v) z f
+
+    -- ---- the ends of calls
+
+    fails_fine : {U : Type 0} (q : Q) (z : Outcome (Left T) V) (y : Outcome (End Q T) U) → Fine Allowed z
+        → fails_as q z y → Fine Allowed y
+    fails_fine q (took v k) y fine e = absurd e
+    fails_fine q (backs k) y fine e = fine_as e fine
+    fails_fine q (cuts k) y fine e = fine_as e fine
+    fails_fine q (asks need k) y fine e = fine_as e fine
+    fails_fine q wants y fine e = fine_as e fine
+
+    fails_ends : {U : Type 0} (q : Q) (z : Outcome (Left T) V) (y : Outcome (End Q T) U)
+        → Ends Refused (λ l. l) z → fails_as q z y → Ends Refused (λ e. e.1) y
+    fails_ends q (took v k) y ends e = absurd e
+    fails_ends q (backs k) y ends e = ends_as (λ e. e.1) e ends
+    fails_ends q (cuts k) y ends e = ends_as (λ e. e.1) e ends
+    fails_ends q (asks need k) y ends e = ends_as (λ e. e.1) e ends
+    fails_ends q wants y ends e = ends_as (λ e. e.1) e ends
+
+    all_fine : (q : Q) (all : Bool) (z : Outcome (Left T) V) (y : Outcome (End Q T) (V × Bool))
+        → Fine Allowed z → all_end q all z y → Fine Allowed y
+    all_fine q true (took v k) y fine e = fine_as e tt
+    all_fine q false (took v k) y fine e = absurd e
+    all_fine q all (backs k) y fine e = fine_as e fine
+    all_fine q all (cuts k) y fine e = fine_as e fine
+    all_fine q all (asks need k) y fine e = fine_as e fine
+    all_fine q all wants y fine e = fine_as e fine
+
+    all_ends : (q : Q) (all : Bool) (z : Outcome (Left T) V) (y : Outcome (End Q T) (V × Bool))
+        → Ends Refused (λ l. l) z → all_end q all z y → Ends Refused (λ e. e.1) y
+    all_ends q all (took v k) y ends e = absurd ends
+    all_ends q all (backs k) y ends e = ends_as (λ e. e.1) e ends
+    all_ends q all (cuts k) y ends e = ends_as (λ e. e.1) e ends
+    all_ends q all (asks need k) y ends e = ends_as (λ e. e.1) e ends
+    all_ends q all wants y ends e = ends_as (λ e. e.1) e ends
+
+    first_fine : (q : Q) (w : Left T) (x : Outcome (End Q T) (V ⊎ X))
+        (y : Outcome (End Q T) (V × Bool)) → Fine Allowed x
+        → ComesOf {Q = Q} (where_took instead (first_last g.units)) at q w x y → Fine Allowed y
+    first_fine q w (took (inl v) e) y fine c = absurd c
+    first_fine q w (took (inr x) e) y fine (inl (less, is)) = fine_as is tt
+    first_fine q w (took (inr x) e) y fine (inr (still, is)) =
+        fine_as is (misused_fine (V × Bool) e)
+    first_fine q w (backs e) y fine is = fine_as is fine
+    first_fine q w (cuts e) y fine is = fine_as is fine
+    first_fine q w (asks need e) y fine is = fine_as is fine
+    first_fine q w wants y fine is = fine_as is fine
+
+    tail_ended : (call : Call) (v : V) (q : Q) (w : Left T) (y : Outcome (End Q T) (V × Bool))
+        → Then same two (where_took instead (next_last g call v)) at q w y
+        → (TailDoes other other_one other_two at call v q w y × Fine Allowed y) ⊎ Ends Refused (λ e. e.1) y
+    tail_ended call v q w y (x, d, c) = let (r, fine) = up.nexts q w x d in by x r fine c
+      where
+        by : (x : Outcome (End Q T) (Option (Y ⊎ Z))) → other_two at q w x → Fine Allowed x
+            → ComesOf {Q = Q} (where_took instead (next_last g call v)) at q w x y
+            → (TailDoes other other_one other_two at call v q w y × Fine Allowed y) ⊎ Ends Refused (λ e. e.1) y
+        by (took None e) r fine is = inl (tail_ends (took None e, r, is), fine_as is tt)
+        by (took (Some (inl p)) e) r fine (inl (less, is)) =
+            inl (tail_ends (took (Some (inl p)) e, r, inl (less, is)), fine_as is tt)
+        by (took (Some (inl p)) e) r fine (inr (reaches, (z, f, fails))) =
+            elim (turn_maps (g.units w.tokens) (λ u. g.behind at p e.1 v u)
+            (λ u. behind at p e.1 v u) (up.behinds p e.1 v) z f) [
+              | inl (more, told) ↦ inl (
+                tail_ends (took (Some (inl p)) e, r, inr (reaches, (z, more, fails))),
+                fails_fine e.0 z y told fails,
+              )
+              | inr ends ↦ inr (fails_ends e.0 z y ends fails)
+            ]
+        by (took (Some (inr o)) e) r fine (inl (less, is)) =
+            inl (tail_ends (took (Some (inr o)) e, r, inl (less, is)), fine_as is tt)
+        by (took (Some (inr o)) e) r fine (inr (reaches, inl (meets, is))) =
+            inl (
+              tail_ends (took (Some (inr o)) e, r, inr (reaches, inl (meets, is))),
+              fine_as is tt,
+            )
+        by (took (Some (inr o)) e) r fine (inr (reaches, inr (apart, inl (still, is)))) = inl (
+          tail_ends (took (Some (inr o)) e, r, inr (reaches, inr (apart, inl (still, is)))),
+          fine_as is (misused_fine (V × Bool) e),
+        )
+        by (took (Some (inr o)) e) r fine (inr (reaches, inr (apart, inr (moved, is)))) = inl (
+          tail_ends (took (Some (inr o)) e, r, inr (reaches, inr (apart, inr (moved, is)))),
+          fine_as is tt,
+        )
+        by (backs e) r fine is = inl (tail_ends (backs e, r, is), fine_as is fine)
+        by (cuts e) r fine is = inl (tail_ends (cuts e, r, is), fine_as is fine)
+        by (asks need e) r fine is = inl (tail_ends (asks need e, r, is), fine_as is fine)
+        by wants r fine is = inl (tail_ends (wants, r, is), fine_as is fine)
+
+    join_ended : (x : Open V X Z) (z y : Outcome (End Q T) (V × Bool)) → JoinEnds g at x z y
+        → Fine Allowed z
+        → (JoinDoes other other_one other_two at x z y × Fine Allowed y) ⊎ Ends Refused (λ e. e.1) y
+    join_ended x (took r end) y (u, f, c) fine =
+        elim (open_maps x.operator x.call.turn end.1 r.0 u f) [
+          | inl (more, told) ↦ inl (join_ends (u, more, c), all_fine end.0 r.1 u y told c)
+          | inr ends ↦ inr (all_ends end.0 r.1 u y ends c)
         ]
-    turn_ends_maps call left s t i j a
-        (inr (inr (inr (inr (inl (power, fold, m, v, r, reaches, folded, same, e)))))) =
-        elim (up.behinds fold m left (Ok v) j folded) [
-          | inl (more, told) ↦ inl (
-            inr (inr (inr (inr
-                (inl (power, fold, m, v, (up.nexts s i _ t m r).0, reaches, more, same, e))))),
-            by e up.refusals,
-          )
-          | inr (k, is, refused) ↦ ok_is_err refl is
-        ]
-    turn_ends_maps call left s t i j a
-        (inr (inr (inr (inr (inr (inl (o, m, r, below, back, e))))))) =
-        inl (
-          inr (inr (inr (inr (inr (inl (o, m, (up.nexts s i _ t m r).0, below, back, e)))))),
-          fine e,
-        )
-    turn_ends_maps call left s t i j a
-        (inr (inr (inr (inr (inr (inr (inl (o, m, r, reaches, meets, back, e)))))))) =
-        inl (
-          inr (inr (inr (inr (inr (inr
-              (inl (o, m, (up.nexts s i _ t m r).0, reaches, meets, back, e))))))),
-          fine e,
-        )
-    turn_ends_maps call left s t i j a
-        (inr (inr (inr (inr (inr (inr (inr (inl (o, r, reaches, free, still, e))))))))) =
-        inl (
-          inr (inr (inr (inr (inr (inr (inr
-              (inl (o, (up.nexts s i _ t j r).0, reaches, free, still, e)))))))),
-          by e up.refusals,
-        )
-    turn_ends_maps call left s t i j a
-        (inr (inr (inr (inr (inr (inr (inr
-        (inr (x, power, (o, r, reaches, free, moved, is, same), e))))))))) =
-        inl (
-          inr (inr (inr (inr (inr (inr (inr (inr (
-            x,
-            power,
-            (o, (up.nexts s i _ t j r).0, reaches, free, moved, is, same),
-            e,
-          )))))))),
-          by e up.memories,
-        )
+    join_ended x (backs end) y e fine = inl (join_ends e, fine_as e fine)
+    join_ended x (cuts end) y e fine = inl (join_ends e, fine_as e fine)
+    join_ended x (asks need end) y e fine = inl (join_ends e, fine_as e fine)
+    join_ended x wants y e fine = inl (join_ends e, fine_as e fine)
 
     -- where the right operand fails otherwise, so does the call that waits for it
-    resume_by : (x : Open V F H) (b : Answer (V × Bool)) (s : S × W) (i : Input T)
-        (a : Answer (V × Bool)) (t : S × W) (j : Input T) → JoinedRuns g x b s i a t j → Ends b i
-        → Ends a j
-    resume_by _ _ _ _ _ _ _ (resume_ends x b a s t i j (inl (kind, e, failed, same)) kept)
-        (k, is, refused) = (
-          k,
-          failed ∙ sym e ∙ is,
-          subst (λ z. Refused k z) (sym same) refused,
-        )
-    resume_by _ _ _ _ _ _ _
-        (resume_ends x b a s t i j (inr (inl (v, all, l, e, folds, failed))) kept)
-        (k, is, refused) =
-        ok_is_err e is
-    resume_by _ _ _ _ _ _ _ (resume_ends x b a s t i j (inr (inr (v, w, e, folds, done))) kept)
-        (k, is, refused) =
-        ok_is_err e is
-    resume_by _ _ _ _ _ _ _ (resume_goes x b a s t i j m v (w, e, folds) turn) (k, is, refused) =
-        ok_is_err e is
+    join_by : (x : Open V X Z) (z y : Outcome (End Q T) (V × Bool)) → JoinDoes g one two at x z y
+        → Ends Refused (λ e. e.1) z → Ends Refused (λ e. e.1) y
+    join_by x _ y (join_goes v r f tail) ends = absurd ends
+    join_by x z y (join_ends e) ends = by z e ends
+      where
+        by : (z : Outcome (End Q T) (V × Bool)) → JoinEnds g at x z y → Ends Refused (λ e. e.1) z
+            → Ends Refused (λ e. e.1) y
+        by (took r end) e ends = absurd ends
+        by (backs end) e ends = ends_as (λ e. e.1) e ends
+        by (cuts end) e ends = ends_as (λ e. e.1) e ends
+        by (asks need end) e ends = ends_as (λ e. e.1) e ends
+        by wants e ends = ends_as (λ e. e.1) e ends
+
+    -- ---- trees
 
     mutual
-      call_maps : (call : Call) (s : S × W) (i : Input T) (a : Answer (V × Bool)) (t : S × W)
-          (j : Input T) → TreeRuns g call s i a t j
-          → (TreeRuns other call s i a t j × Fine a) ⊎ Ends a j
-      call_maps _ _ _ _ _ _ (call_ends call s t i j kind a (inl r) kept e) =
-          let (more, told) = up.firsts s.0 i (Err kind) t.0 j r in
-          inl (call_ends call s t i j kind a (inl more) kept e, by e (told kind refl))
-      call_maps _ _ _ _ _ _
-          (call_ends call s t i j kind a (inr (inl (power, fold, r, still, is))) kept e) =
-          inl (
-            call_ends call s t i j kind a
-                (inr (inl (power, fold, (up.firsts s.0 i _ t.0 j r).0, still, is))) kept e,
-            by e (subst (λ z. Allowed z) (sym is) up.refusals),
-          )
-      call_maps _ _ _ _ _ _
-          (call_ends call s t i j kind a
-          (inr (inr (x, power, (fold, r, moved, same), is))) kept e) =
-          inl (
-            call_ends call s t i j kind a
-                (inr (inr (x, power, (fold, (up.firsts s.0 i _ t.0 j r).0, moved, same), is)))
-                kept e,
-            by e (subst (λ z. Allowed z) (sym is) up.memories),
-          )
-      call_maps _ _ _ _ _ _ (call_operand call s t u i j m v a r kept turn) =
-          elim (turn_maps call v u m a t j turn) [
+      tree_maps : (call : Call) (q : Q) (w : Left T) (y : Outcome (End Q T) (V × Bool))
+          → TreeDoes g one two at call q w y
+          → (TreeDoes other other_one other_two at call q w y × Fine Allowed y) ⊎ Ends Refused (λ e. e.1) y
+      tree_maps call q w y (tree_operand {u = u} {m = m} v read tail) =
+          elim (tail_maps call v u m y tail) [
             | inl (more, told) ↦ inl
-                (call_operand call s t u i j m v a (up.firsts s.0 i _ u.0 m r).0 kept more, told)
+                (tree_operand v (up.firsts q w (took (inl v) (u, m)) read).0 more, told)
             | inr ends ↦ inr ends
           ]
-      call_maps _ _ _ _ _ _
-          (call_prefix call s t u w i j m n x power b a (fold, r, moved, is) kept inner resumed) =
-          elim (call_maps (call_at power (units_left g.folding.units m)) u m b w n inner) [
-            | inl (more, told) ↦ elim (resume_maps x b w n a t j resumed told) [
+      tree_maps call q w y (tree_prefix {u = u} {m = m} {z = z} x read less inner joined) =
+          let above : Open V X Z = record { operator = inl x; call = call } in
+          elim (tree_maps (call_at (g.prefix_power x) (g.units m.tokens)) u m z inner) [
+            | inl (more, told) ↦ elim (join_maps above z y joined told) [
               | inl (goes, known) ↦ inl (
-                call_prefix call s t u w i j m n x power b a
-                    (fold, (up.firsts s.0 i _ u.0 m r).0, moved, is) kept more goes,
+                tree_prefix x (up.firsts q w (took (inr x) (u, m)) read).0 less more goes,
                 known,
               )
               | inr ends ↦ inr ends
             ]
-            | inr ends ↦ inr (resume_by x b w n a t j resumed ends)
+            | inr ends ↦ inr (join_by above z y joined ends)
           ]
+      tree_maps call q w y (tree_ends (x, d, c)) =
+          let (r, fine) = up.firsts q w x d in
+          inl (tree_ends (x, r, c), first_fine q w x y fine c)
 
-      turn_maps : (call : Call) (left : V) (s : S × W) (i : Input T) (a : Answer (V × Bool))
-          (t : S × W) (j : Input T) → TailRuns g call left s i a t j
-          → (TailRuns other call left s i a t j × Fine a) ⊎ Ends a j
-      turn_maps _ _ _ _ _ _ _ (turn_ends call left s t i j a ended kept) =
-          elim (turn_ends_maps call left s.1 t.1 i j a ended) [
-            | inl (more, told) ↦ inl (turn_ends call left s t i j a more kept, told)
-            | inr ends ↦ inr ends
-          ]
-      turn_maps _ _ _ _ _ _ _
-          (turn_postfix call left v s t u i j m a (power, fold, n, r, reaches, folded, moved) kept
-          turn) =
-          elim (up.behinds fold n left (Ok v) m folded) [
-            | inl (folds, known) ↦ elim (turn_maps call v u m a t j turn) [
+      tail_maps : (call : Call) (v : V) (q : Q) (w : Left T) (y : Outcome (End Q T) (V × Bool))
+          → TailDoes g one two at call v q w y
+          → (TailDoes other other_one other_two at call v q w y × Fine Allowed y) ⊎ Ends Refused (λ e. e.1) y
+      tail_maps call v q w y (tail_postfix {u = u} {m = m} {k = k} p r read reaches f tail) =
+          elim (turn_maps (g.units w.tokens) (λ z. g.behind at p m v z) (λ z. behind at p m v z)
+          (up.behinds p m v) (took r k) f) [
+            | inl (folds, known) ↦ elim (tail_maps call r u k y tail) [
               | inl (more, told) ↦ inl (
-                turn_postfix call left v s t u i j m a
-                    (power, fold, n, (up.nexts s.1 i _ u.1 n r).0, reaches, folds, moved) kept
+                tail_postfix p r (up.nexts q w (took (Some (inl p)) (u, m)) read).0 reaches folds
                     more,
                 told,
               )
               | inr ends ↦ inr ends
             ]
-            | inr (k, is, refused) ↦ ok_is_err refl is
+            | inr ends ↦ absurd ends
           ]
-      turn_maps _ _ _ _ _ _ _
-          (turn_infix call left s t u w i j m n x power b a
-          (o, r, reaches, free, moved, strong, is) kept inner resumed) =
-          elim (call_maps (call_at power (units_left g.folding.units m)) u m b w n inner) [
-            | inl (more, told) ↦ elim (resume_maps x b w n a t j resumed told) [
+      tail_maps call v q w y (tail_infix {u = u} {m = m} {z = z} o read accepts inner joined) =
+          let above : Open V X Z = opened g call v o w in
+          elim (tree_maps (call_at (g.right_power o) (g.units m.tokens)) u m z inner) [
+            | inl (more, told) ↦ elim (join_maps above z y joined told) [
               | inl (goes, known) ↦ inl (
-                turn_infix call left s t u w i j m n x power b a
-                    (o, (up.nexts s.1 i _ u.1 m r).0, reaches, free, moved, strong, is) kept more
-                    goes,
+                tail_infix o (up.nexts q w (took (Some (inr o)) (u, m)) read).0 accepts more goes,
                 known,
               )
               | inr ends ↦ inr ends
             ]
-            | inr ends ↦ inr (resume_by x b w n a t j resumed ends)
+            | inr ends ↦ inr (join_by above z y joined ends)
           ]
+      tail_maps call v q w y (tail_ends d) = tail_ended call v q w y d
 
-      resume_maps : (x : Open V F H) (b : Answer (V × Bool)) (s : S × W) (i : Input T)
-          (a : Answer (V × Bool)) (t : S × W) (j : Input T) → JoinedRuns g x b s i a t j → Fine b
-          → (JoinedRuns other x b s i a t j × Fine a) ⊎ Ends a j
-      resume_maps _ _ _ _ _ _ _
-          (resume_ends x b a s t i j (inl (kind, e, failed, same)) kept) told =
-          inl (
-            resume_ends x b a s t i j (inl (kind, e, failed, same)) kept,
-            by failed (told kind e),
-          )
-      resume_maps _ _ _ _ _ _ _
-          (resume_ends x b a s t i j (inr (inl (right, all, kind, e, folds, failed))) kept) told =
-          elim (closes_maps x.operator x.call.turn i right (Err kind) j folds) [
-            | inl (more, known) ↦ inl (
-              resume_ends x b a s t i j (inr (inl (right, all, kind, e, more, failed))) kept,
-              by failed (known kind refl),
-            )
-            | inr (k, is, refused) ↦
-                inr (k, subst (λ z. a ≡ Err z) (same_kind is) failed, refused)
-          ]
-      resume_maps _ _ _ _ _ _ _
-          (resume_ends x b a s t i j (inr (inr (right, v, e, folds, done))) kept) told =
-          elim (closes_maps x.operator x.call.turn i right (Ok v) j folds) [
-            | inl (more, known) ↦ inl
-                (resume_ends x b a s t i j (inr (inr (right, v, e, more, done))) kept, fine done)
-            | inr (k, is, refused) ↦ ok_is_err refl is
-          ]
-      resume_maps _ _ _ _ _ _ _ (resume_goes x b a s t i j m v (right, e, folds) turn) told =
-          elim (closes_maps x.operator x.call.turn i right (Ok v) m folds) [
-            | inl (closes, known) ↦ elim (turn_maps x.call v s m a t j turn) [
-              | inl (more, fine_) ↦ inl
-                  (resume_goes x b a s t i j m v (right, e, closes) more, fine_)
+      join_maps : (x : Open V X Z) (z y : Outcome (End Q T) (V × Bool))
+          → JoinDoes g one two at x z y → Fine Allowed z
+          → (JoinDoes other other_one other_two at x z y × Fine Allowed y) ⊎ Ends Refused (λ e. e.1) y
+      join_maps x _ y (join_goes {q = q} {m = m} {k = k} v r f tail) told =
+          elim (open_maps x.operator x.call.turn m v (took r k) f) [
+            | inl (folds, known) ↦ elim (tail_maps x.call r q k y tail) [
+              | inl (more, fine) ↦ inl (join_goes v r folds more, fine)
               | inr ends ↦ inr ends
             ]
-            | inr (k, is, refused) ↦ ok_is_err refl is
+            | inr ends ↦ absurd ends
           ]
+      join_maps x z y (join_ends e) told = join_ended x z y e told
 
-    pub leveled_maps : (s : S × W × ℤ) (i : Input T) (answer : Answer V) (t : S × W × ℤ)
-        (j : Input T) → LeveledRuns g s i answer t j
-        → (LeveledRuns other s i answer t j × Fine answer) ⊎ Ends answer j
-    leveled_maps s i (Ok v) t j ((all, runs), kept) =
-        elim (call_maps (call_at s.2 (units_left g.folding.units i)) (s.0, s.1) i (Ok (v, all))
-        (t.0, t.1) j runs) [
-          | inl (more, told) ↦ inl (((all, more), kept), fine refl)
-          | inr (k, is, refused) ↦ ok_is_err refl is
-        ]
-    leveled_maps s i (Err l) t j (runs, kept) =
-        elim (call_maps (call_at s.2 (units_left g.folding.units i)) (s.0, s.1) i (Err l)
-        (t.0, t.1) j runs) [
-          | inl (more, told) ↦ inl ((more, kept), by refl (told l refl))
-          | inr (k, is, refused) ↦ inr
-              (l, refl, subst (λ z. Refused z j) (sym (same_kind is)) refused)
-        ]
+    pub trees_map : (level : ℤ) (q : Q) (w : Left T) (y : Outcome (End Q T) V)
+        → TreesDo g one two level at q w y
+        → (TreesDo other other_one other_two level at q w y × Fine Allowed y) ⊎ Ends Refused (λ e. e.1) y
+    trees_map level q w y (x, d, c) = elim (tree_maps (call_at level (g.units w.tokens)) q w x d) [
+      | inl (more, told) ↦ inl ((x, more, c), by x c told)
+      | inr ends ↦ inr (otherwise x c ends)
+    ]
+      where
+        by : (x : Outcome (End Q T) (V × Bool))
+            → ComesOf {Q = Q} (tree_value {V = V}) at q w x y → Fine Allowed x → Fine Allowed y
+        by (took o e) is fine = fine_as is fine
+        by (backs e) is fine = fine_as is fine
+        by (cuts e) is fine = fine_as is fine
+        by (asks need e) is fine = fine_as is fine
+        by wants is fine = fine_as is fine
 
--- ---- the runs in which no part or no fold fails
-
-all_of : {A B C : Type 0} → A ⊎ B → (B → C) → (A → C) → C
-all_of (inl a) none told = told a
-all_of (inr b) none told = none b
-
-gives : {V : Type 0} (X : Answer V → Type 0) (Y : Kind → Type 0) (a : Answer V) → X a
-    → ((k : Kind) → X (Err k) → Y k)
-    → ((X a × IsOk a) × ((k : Kind) → a ≡ Err k → ⊤)) ⊎ ((k : Kind) × (a ≡ Err k) × Y k)
-gives X Y (Ok v) run none = inl ((run, refl), λ k e. tt)
-gives X Y (Err k) run none = inr (k, refl, none k run)
-
-no_error : {X : Type 0} {V : Type 0} {a : Answer V} (k : Kind) → IsOk a → a ≡ Err k → X
-no_error k ok e = absurd (cc)
-
-module _ {S W T V F G H : Type 0} (g : Grammar S W T V F G H) (s : S × W × ℤ) (i : Input T)
-    (answer : Answer V) (t : S × W × ℤ) (j : Input T) where
-  pub asserting_accepts : LeveledRuns (asserting g) s i answer t j
-      → LeveledRuns (accepting g) s i answer t j
-  asserting_accepts runs =
-      all_of (leveled_maps (asserting g) g.first g.next (accepting g).behind
-      (accepting g).folding.before (accepting g).folding.between (λ k. ⊤) (λ k j. ⊥) (record {
-        firsts = λ s i a t j r. (r.0, λ k e. tt);
-        nexts = λ s i a t j r. (r.0, λ k e. tt);
-        behinds = λ f i v a j r. inl (r, λ k e. tt);
-        befores = λ f i v a j r. inl (r, λ k e. tt);
-        betweens = λ f i v w a j r. inl (r, λ k e. tt);
-        refusals = tt;
-        memories = tt;
-      }) s i answer t j runs) (λ none. absurd none.2) (λ told. told.0)
-
-  pub accepting_runs : LeveledRuns (accepting g) s i answer t j → LeveledRuns g s i answer t j
-  accepting_runs runs =
-      all_of (leveled_maps (accepting g) g.first g.next g.behind g.folding.before
-      g.folding.between (λ k. ⊤) (λ k j. ⊥) (record {
-        firsts = λ s i a t j r. (r, λ k e. tt);
-        nexts = λ s i a t j r. (r, λ k e. tt);
-        behinds = λ f i v a j r. inl (r.0, λ k e. tt);
-        befores = λ f i v a j r. inl (r.0, λ k e. tt);
-        betweens = λ f i v w a j r. inl (r.0, λ k e. tt);
-        refusals = tt;
-        memories = tt;
-      }) s i answer t j runs) (λ none. absurd none.2) (λ told. told.0)
-
-  pub leveled_accepts : LeveledRuns g s i answer t j
-      → LeveledRuns (accepting g) s i answer t j ⊎ FoldAnswers g answer j
-  leveled_accepts runs =
-      all_of (leveled_maps g g.first g.next (accepting g).behind (accepting g).folding.before
-      (accepting g).folding.between (λ k. ⊤) (FoldFails g) (record {
-        firsts = λ s i a t j r. (r, λ k e. tt);
-        nexts = λ s i a t j r. (r, λ k e. tt);
-        behinds = λ f i v a j r. gives (λ a. g.behind f i v a j) (λ k. FoldFails g k j) a r
-            (λ k r. inr (inl (f, i, v, r)));
-        befores = λ f i v a j r. gives (λ a. g.folding.before f i v a j) (λ k. FoldFails g k j) a r
-            (λ k r. inl (f, i, v, r));
-        betweens = λ f i v w a j r. gives (λ a. g.folding.between f i v w a j)
-            (λ k. FoldFails g k j) a r (λ k r. inr (inr (f, i, v, w, r)));
-        refusals = tt;
-        memories = tt;
-      }) s i answer t j runs) (λ folds. inr folds) (λ told. inl told.0)
-
-pub failure_told : {S W T V F G H : Type 0} (g : Grammar S W T V F G H) (s : S × W × ℤ)
-    (i : Input T) (k : Kind) (t : S × W × ℤ) (j : Input T)
-    → LeveledRuns (asserting g) s i (Err k) t j → (k ≡ g.folding.refusal) ⊎ (k ≡ memory)
-failure_told g s i k t j runs =
-    all_of (leveled_maps (asserting g) (asserting g).first (asserting g).next (asserting g).behind
-    (asserting g).folding.before (asserting g).folding.between
-    (λ k. (k ≡ g.folding.refusal) ⊎ (k ≡ memory)) (λ k j. ⊥) (record {
-      firsts = λ s i a t j r. (r, λ k e. no_error k r.1 e);
-      nexts = λ s i a t j r. (r, λ k e. no_error k r.1 e);
-      behinds = λ f i v a j r. inl (r, λ k e. no_error k r.1 e);
-      befores = λ f i v a j r. inl (r, λ k e. no_error k r.1 e);
-      betweens = λ f i v w a j r. inl (r, λ k e. no_error k r.1 e);
-      refusals = inl refl;
-      memories = inr refl;
-    }) s i (Err k) t j runs) (λ none. absurd none.2) (λ told. told.1 k refl)
+        otherwise : (x : Outcome (End Q T) (V × Bool))
+            → ComesOf {Q = Q} (tree_value {V = V}) at q w x y → Ends Refused (λ e. e.1) x
+            → Ends Refused (λ e. e.1) y
+        otherwise (took o e) is ends = absurd ends
+        otherwise (backs e) is ends = ends_as (λ e. e.1) is ends
+        otherwise (cuts e) is ends = ends_as (λ e. e.1) is ends
+        otherwise (asks need e) is ends = ends_as (λ e. e.1) is ends
+        otherwise wants is ends = ends_as (λ e. e.1) is ends

@@ -4,10 +4,9 @@ ghost use Rattle.std.specs.Prelude.{◌≡◌, ◌⊎◌, ℤ, Bool, Err};
 ghost use Rattle.stream_errors.specs.Form.{Answer, assert_kind};
 ghost use Rattle.streams.specs.Input.{Input};
 ghost use Rattle.streams.specs.Kind.{Kind, memory};
-ghost use Rattle.winnow_expression.specs.Expression.{LeveledRuns};
 ghost use Rattle.winnow_expression.specs.Grammar.{folding};
 ghost use Rattle.winnow_expression.specs.Parts.{PartsDo, did_grammar};
-ghost use Rattle.winnow_expression_trees.specs.Accepting.{FoldAnswers, accepting, asserting};
+ghost use Rattle.winnow_expression_trees.specs.Accepting.{AcceptingDo, AssertingDo, FoldAnswers};
 ghost use Rattle.winnow_expression_trees.specs.Alike.{AlikeInfix, AlikeTree};
 ghost use Rattle.winnow_expression_trees.specs.Failure.{EndedBy, RejectedBy, Unmoved};
 ghost use Rattle.winnow_expression_trees.specs.OneTree.{IsTheOneTree, KeepsOver};
@@ -197,9 +196,9 @@ pub fn tree_is_unique<
 /// States that no tree respects precedence after an assert rule fails. The same holds after any
 /// call that fails although no fold fails, for every kind except out of memory.
 ///
-/// Clause `asserts` is about the calls in which neither a part nor a fold fails (`asserting`): they
-/// fail only by an assert rule, with its kind, as clause `kind` states. Clause `failures` is about
-/// those in which no fold fails (`accepting`): a part may fail there too. Clause `ends` states that
+/// Clause `asserts` is about the calls in which neither a part nor a fold fails (`AssertingDo`):
+/// they fail only by an assert rule, with its kind, as clause `kind` states. Clause `failures` is
+/// about those in which no fold fails (`AcceptingDo`): a part may fail there too. Clause `ends` states that
 /// these fail with the kind and the rest of the result that ended the reading, or that an operator
 /// was read that consumes nothing.
 ///
@@ -251,8 +250,8 @@ pub fn assert_rules_leave_no_tree<
         s.0.0 s.0.1 s.1.0 s.1.1
         → (i : Input I.Seen) (k : Kind)
         (t : (P.State × Pre.State) × (Post.State × Pix.State) × ℤ) (j : Input I.Seen)
-        → LeveledRuns (asserting (did_grammar I.reading E.form P.does Pre.does
-        Post.does Pix.does F.folds G.folds H.folds)) s i (Err k) t j → (k ≡ memory → ⊥)
+        → Ran I.reading (AssertingDo I.reading P.does Pre.does Post.does Pix.does F.folds G.folds
+        H.folds) E.form s i (Err k) t j → (k ≡ memory → ⊥)
         → (r : Tree O F G H) (n : Input I.Seen) (all : Bool)
         → KeepsOver (did_grammar I.reading E.form P.does Pre.does
         Post.does Pix.does F.folds G.folds H.folds) (s.0, s.1) s.2 i r n all → ⊥ }
@@ -263,8 +262,8 @@ pub fn assert_rules_leave_no_tree<
         s.0.0 s.0.1 s.1.0 s.1.1
         → (i : Input I.Seen) (k : Kind)
         (t : (P.State × Pre.State) × (Post.State × Pix.State) × ℤ) (j : Input I.Seen)
-        → LeveledRuns (accepting (did_grammar I.reading E.form P.does Pre.does
-        Post.does Pix.does F.folds G.folds H.folds)) s i (Err k) t j → (k ≡ memory → ⊥)
+        → Ran I.reading (AcceptingDo I.reading P.does Pre.does Post.does Pix.does F.folds G.folds
+        H.folds) E.form s i (Err k) t j → (k ≡ memory → ⊥)
         → (r : Tree O F G H) (n : Input I.Seen) (all : Bool)
         → KeepsOver (did_grammar I.reading E.form P.does Pre.does
         Post.does Pix.does F.folds G.folds H.folds) (s.0, s.1) s.2 i r n all → ⊥ }
@@ -275,8 +274,8 @@ pub fn assert_rules_leave_no_tree<
         s.0.0 s.0.1 s.1.0 s.1.1
         → (i : Input I.Seen) (k : Kind)
         (t : (P.State × Pre.State) × (Post.State × Pix.State) × ℤ) (j : Input I.Seen)
-        → LeveledRuns (accepting (did_grammar I.reading E.form P.does Pre.does
-        Post.does Pix.does F.folds G.folds H.folds)) s i (Err k) t j → (k ≡ memory → ⊥)
+        → Ran I.reading (AcceptingDo I.reading P.does Pre.does Post.does Pix.does F.folds G.folds
+        H.folds) E.form s i (Err k) t j → (k ≡ memory → ⊥)
         → EndedBy (did_grammar I.reading E.form P.does Pre.does
         Post.does Pix.does F.folds G.folds H.folds) (s.0, s.1) i k j
         ⊎ Unmoved (did_grammar I.reading E.form P.does Pre.does
@@ -284,21 +283,21 @@ pub fn assert_rules_leave_no_tree<
     ensures kind { (s : (P.State × Pre.State) × (Post.State × Pix.State) × ℤ)
         (i : Input I.Seen) (k : Kind)
         (t : (P.State × Pre.State) × (Post.State × Pix.State) × ℤ) (j : Input I.Seen)
-        → LeveledRuns (asserting (did_grammar I.reading E.form P.does Pre.does
-        Post.does Pix.does F.folds G.folds H.folds)) s i (Err k) t j
+        → Ran I.reading (AssertingDo I.reading P.does Pre.does Post.does Pix.does F.folds G.folds
+        H.folds) E.form s i (Err k) t j
         → (k ≡ assert_kind E.form) ⊎ (k ≡ memory) }
     ensures within { (s : (P.State × Pre.State) × (Post.State × Pix.State) × ℤ)
         (i : Input I.Seen) (answer : Answer O)
         (t : (P.State × Pre.State) × (Post.State × Pix.State) × ℤ) (j : Input I.Seen)
-        → LeveledRuns (asserting (did_grammar I.reading E.form P.does Pre.does
-        Post.does Pix.does F.folds G.folds H.folds)) s i answer t j
-        → LeveledRuns (accepting (did_grammar I.reading E.form P.does Pre.does
-        Post.does Pix.does F.folds G.folds H.folds)) s i answer t j }
+        → Ran I.reading (AssertingDo I.reading P.does Pre.does Post.does Pix.does F.folds G.folds
+        H.folds) E.form s i answer t j
+        → Ran I.reading (AcceptingDo I.reading P.does Pre.does Post.does Pix.does F.folds G.folds
+        H.folds) E.form s i answer t j }
     ensures run { (s : (P.State × Pre.State) × (Post.State × Pix.State) × ℤ)
         (i : Input I.Seen) (answer : Answer O)
         (t : (P.State × Pre.State) × (Post.State × Pix.State) × ℤ) (j : Input I.Seen)
-        → LeveledRuns (accepting (did_grammar I.reading E.form P.does Pre.does
-        Post.does Pix.does F.folds G.folds H.folds)) s i answer t j
+        → Ran I.reading (AcceptingDo I.reading P.does Pre.does Post.does Pix.does F.folds G.folds
+        H.folds) E.form s i answer t j
         → Ran I.reading (PartsDo I.reading P.does Pre.does Post.does Pix.does F.folds G.folds
         H.folds) E.form s i answer t j }
     ensures either { (s : (P.State × Pre.State) × (Post.State × Pix.State) × ℤ)
@@ -306,10 +305,8 @@ pub fn assert_rules_leave_no_tree<
         (t : (P.State × Pre.State) × (Post.State × Pix.State) × ℤ) (j : Input I.Seen)
         → Ran I.reading (PartsDo I.reading P.does Pre.does Post.does Pix.does F.folds G.folds
         H.folds) E.form s i answer t j
-        → (u : (P.State × Pre.State) × (Post.State × Pix.State) × ℤ) × (k : Input I.Seen)
-        × (LeveledRuns (accepting (did_grammar I.reading E.form P.does Pre.does
-        Post.does Pix.does F.folds G.folds H.folds)) s i answer u k ⊎ FoldAnswers
-        (did_grammar I.reading E.form P.does Pre.does
-        Post.does Pix.does F.folds G.folds H.folds) answer k)
-        × (NotMemory answer → (u ≡ t) × (k ≡ j)) }
+        → Ran I.reading (AcceptingDo I.reading P.does Pre.does Post.does Pix.does F.folds G.folds
+        H.folds) E.form s i answer t j
+        ⊎ ((k : Input I.Seen) × FoldAnswers (did_grammar I.reading E.form P.does Pre.does
+        Post.does Pix.does F.folds G.folds H.folds) answer k × (NotMemory answer → k ≡ j)) }
 {}

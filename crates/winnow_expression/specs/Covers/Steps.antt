@@ -16,7 +16,6 @@ use Rattle.parser_definitions.specs.Then.{Comes, ComesOf, Then}
 use Rattle.parser_definitions.specs.Then.Steps.{In, hands_on, instead, same, where_took}
 use Rattle.winnow_core.specs.Covers.{gave, left_at}
 use Rattle.winnow_core.specs.Runs.{Runs}
-use Rattle.winnow_expression.specs.Calls as lib
 use Rattle.winnow_expression.specs.Covers.{Reads, Within, within_back, within_end, within_same}
 use Rattle.winnow_expression.specs.Definition.{OutputAs, first_side, made_as, next_side, operators}
 use Rattle.winnow_expression.specs.Folds.{DoesBinary, DoesUnary, FoldsLeaveEnds}
@@ -35,11 +34,6 @@ use Rattle.winnow_expression.specs.declared.combinator.places.Next.TheVariants.{
   Postfix as postfix_read,
 }
 use Rattle.winnow_expression.specs.declared.combinator.places.Next.TheVariants.{Infix as infix_read}
-
--- a call of the machine
-abbrev pub call_as : lib.Call → Call
-call_as c =
-    record { least = c.least; began = c.began; turn = c.turn; neither = c.neither }
 
 -- ---- errors
 
@@ -171,7 +165,7 @@ module _ {S W T L V F G H : Type 0} {reading : Reading T L} {at : Setting}
       by (Err memory) = refl
 
   -- a call ends at its beginning
-  pub tree_ended : (call : lib.Call) (s t : S × W) (i j : Input T) (k : Kind)
+  pub tree_ended : (call : Call) (s t : S × W) (i j : Input T) (k : Kind)
       (a : Answer (V × Bool)) → Here i
       → CallEnds H units first (assert_kind at.form) call s.0 i k t.0 j → t.1 ≡ s.1
       → a ≡ Err k
@@ -209,11 +203,11 @@ module _ {S W T L V F G H : Type 0} {reading : Reading T L} {at : Setting}
       )
 
   -- a call ends after a value
-  pub tail_ended : (call : lib.Call) (v : V) (s t : S × W) (i j : Input T) (a : Answer (V × Bool))
+  pub tail_ended : (call : Call) (v : V) (s t : S × W) (i j : Input T) (a : Answer (V × Bool))
       → Here i
       → TurnEnds F units next (behind at.form) (assert_kind at.form) call v s.1 i a t.1 j
       → t.0 ≡ s.0
-      → Then same Two (where_took instead (next_last O (call_as call) v)) at (full s) (left_of i)
+      → Then same Two (where_took instead (next_last O call v)) at (full s) (left_of i)
       (outcome_of a (full t, left_of j)) × Here j
   tail_ended call v s t i j a here (inl (r, e)) is =
       let d = next_did s t i j (Ok Nothing) here r is in
@@ -223,7 +217,7 @@ module _ {S W T L V F G H : Type 0} {reading : Reading T L} {at : Setting}
         (
           made_as next_side (outcome_of (Err k) (full t, left_of j)),
           d.0,
-          failed_as next_side (next_last O (call_as call) v) at (full s) (left_of i) k
+          failed_as next_side (next_last O call v) at (full s) (left_of i) k
               (full t, left_of j) a e,
         ),
         d.1,

@@ -6,7 +6,7 @@ use Rattle.streams.specs.Kind.{Kind, backtrack, cut, incomplete, memory}
 use Rattle.streams.specs.Reading.{Reading}
 use Rattle.stream_errors.specs.Form.{Answer, ErrorForm, assert_kind}
 use Rattle.parser_definitions.specs.Does.{Ran}
-use Rattle.parser_definitions.specs.Expression.{Call, FoldsOpen, JoinDoes, JoinEnds}
+use Rattle.parser_definitions.specs.Expression.{Call, FoldsOpen, JoinDoes, JoinEnds, call_at}
 use Rattle.parser_definitions.specs.Expression.{Open, Operators, TailDoes, TreeDoes, all_end}
 use Rattle.parser_definitions.specs.Expression.{checked, join_ends, join_goes}
 use Rattle.parser_definitions.specs.Expression.{opened, tail_ends, tail_infix}
@@ -17,12 +17,12 @@ use Rattle.parser_definitions.specs.Outcome.{Does, Outcome, Setting}
 use Rattle.parser_definitions.specs.Outcome.{outcome_of, setting_of, took}
 use Rattle.parser_definitions.specs.Then.{ComesOf}
 use Rattle.parser_definitions.specs.Then.Steps.{same}
-use Rattle.winnow_core.specs.Covers.{Covers, gave, ran_covers, ran_ends}
+use Rattle.winnow_core.specs.Covers.{gave, ran_covers, ran_ends}
 use Rattle.winnow_core.specs.Runs.{Runs}
 use Rattle.winnow_expression.specs.Covers.Steps as step
 use Rattle.winnow_expression.specs.Covers.{Reads, Within, covered_reads, reads_ran, within_end}
 use Rattle.winnow_expression.specs.Covers.{within_same}
-use Rattle.winnow_expression.specs.Covers.Steps.{PartsCovered, call_as, checked_error}
+use Rattle.winnow_expression.specs.Covers.Steps.{PartsCovered, checked_error}
 use Rattle.winnow_expression.specs.Covers.Steps.{first_did, misuse, next_did, tail_ended}
 use Rattle.winnow_expression.specs.Covers.Steps.{tree_ended}
 use Rattle.winnow_expression.specs.Calls as lib
@@ -62,11 +62,8 @@ abbrev pub operator_kept : {V F H : Type 0} → Prefix F ⊎ (V × Infix H) → 
 operator_kept (inl p) = prefix_open p.1
 operator_kept (inr o) = infix_open o.0 (fold_of o.1)
 
-abbrev pub call_kept : Call → lib.Call
-call_kept c = record { least = c.least; began = c.began; turn = c.turn; neither = c.neither }
-
 abbrev pub kept : {V F H : Type 0} → Open V (Prefix F) (Infix H) → lib.Open V F H
-kept x = record { operator = operator_kept x.operator; call = call_kept x.call }
+kept x = record { operator = operator_kept x.operator; call = x.call }
 
 -- ---- trees
 
@@ -189,9 +186,9 @@ module _ {S W T L V F G H : Type 0} {reading : Reading T L} {at : Setting}
       )
 
   mutual
-    tree_did : (call : lib.Call) (s : S × W) (i : Input T) (a : Answer (V × Bool)) (t : S × W)
+    tree_did : (call : Call) (s : S × W) (i : Input T) (a : Answer (V × Bool)) (t : S × W)
         (j : Input T) → Here i → TreeRuns Parts call s i a t j
-        → TreeDoes O One Two at (call_as call) (full s) (left_of i)
+        → TreeDoes O One Two at call (full s) (left_of i)
         (outcome_of a (full t, left_of j)) × Here j
     tree_did _ _ _ _ _ _ here (call_ends call s t i j k a ended same e) =
         let d = tree_ended p level call s t i j k a here ended same e in (tree_ends d.0, d.1)
@@ -202,14 +199,14 @@ module _ {S W T L V F G H : Type 0} {reading : Reading T L} {at : Setting}
     tree_did _ _ _ _ _ _ here
         (call_prefix call s t u w i j m n x power b a (fold, read, less, is) same inner joined) =
         let d = first_did p level s u i m (Ok (prefix_read power fold)) here read same in
-        let r = tree_did (lib.call_at power (units m.left.tokens)) u m b w n d.1 inner in
-        let z = join_did (record { operator = inl (power, fold); call = call_as call }) x b w n a t
+        let r = tree_did (call_at power (units m.left.tokens)) u m b w n d.1 inner in
+        let z = join_did (record { operator = inl (power, fold); call = call }) x b w n a t
         j r.1 joined is in
         (tree_prefix (power, fold) d.0 less r.0 z.0, z.1)
 
-    tail_did : (call : lib.Call) (v : V) (s : S × W) (i : Input T) (a : Answer (V × Bool))
+    tail_did : (call : Call) (v : V) (s : S × W) (i : Input T) (a : Answer (V × Bool))
         (t : S × W) (j : Input T) → Here i → TailRuns Parts call v s i a t j
-        → TailDoes O One Two at (call_as call) v (full s) (left_of i)
+        → TailDoes O One Two at call v (full s) (left_of i)
         (outcome_of a (full t, left_of j)) × Here j
     tail_did _ _ _ _ _ _ _ here (turn_ends call v s t i j a ended same) =
         let d = tail_ended p level call v s t i j a here ended same in (tail_ends d.0, d.1)
@@ -230,10 +227,9 @@ module _ {S W T L V F G H : Type 0} {reading : Reading T L} {at : Setting}
         (turn_infix call v s t u w i j m n x power b a
         (o, read, reaches, apart, moved, right, is) same inner joined) =
         let d = next_did p level s u i m (Ok (infix_read o)) here read same in
-        let r = tree_did (lib.call_at power (units m.left.tokens)) u m b w n d.1 inner in
-        let z = join_did (opened O (call_as call) v o (left_of i)) x b w n a t j r.1 joined is in
-        let P : ℤ → Type 0 = λ p. TreeDoes O One Two at (call_as (lib.call_at p
-        (units m.left.tokens))) (full u) (left_of m) (outcome_of b (full w, left_of n)) in
+        let r = tree_did (call_at power (units m.left.tokens)) u m b w n d.1 inner in
+        let z = join_did (opened O call v o (left_of i)) x b w n a t j r.1 joined is in
+        let P : ℤ → Type 0 = λ p. TreeDoes O One Two at (call_at p (units m.left.tokens)) (full u) (left_of m) (outcome_of b (full w, left_of n)) in
         (tail_infix o d.0 (reaches, apart, moved) (subst P right r.0) z.0, z.1)
 
     join_did : (d : Open V (Prefix F) (Infix H)) (x : lib.Open V F H) (b : Answer (V × Bool))
@@ -251,7 +247,7 @@ module _ {S W T L V F G H : Type 0} {reading : Reading T L} {at : Setting}
         Closes Folds x.operator x.call.turn i right (Ok v) m in
         let c = closed d.operator d.call.turn i right (Ok v) m here (subst C is closes) in
         let r = tail_did x.call v s m a t j c.1 tail in
-        let P : lib.Open V F H → Type 0 = λ x. TailDoes O One Two at (call_as x.call) v (full s)
+        let P : lib.Open V F H → Type 0 = λ x. TailDoes O One Two at x.call v (full s)
         (left_of m) (outcome_of a (full t, left_of j)) in
         let B : Answer (V × Bool) → Type 0 = λ b. JoinDoes O One Two at d
         (outcome_of b (full s, left_of i)) (outcome_of a (full t, left_of j)) in
@@ -262,10 +258,10 @@ module _ {S W T L V F G H : Type 0} {reading : Reading T L} {at : Setting}
       → TreesDo O One Two level at (full s) (left_of i) (outcome_of a (full t, left_of j))
       × Here j
   expression_did s i (Ok v) t j here (all, r) =
-      let d = tree_did (lib.call_at level (units i.left.tokens)) s i (Ok (v, all)) t j here r in
+      let d = tree_did (call_at level (units i.left.tokens)) s i (Ok (v, all)) t j here r in
       ((took (v, all) (full t, left_of j), d.0, refl), d.1)
   expression_did s i (Err k) t j here r =
-      let d = tree_did (lib.call_at level (units i.left.tokens)) s i (Err k) t j here r in
+      let d = tree_did (call_at level (units i.left.tokens)) s i (Err k) t j here r in
       ((outcome_of (Err k) (full t, left_of j), d.0, by k), d.1)
     where
       by : (k : Kind) → ComesOf {S = Q} {T = T} (tree_value {V = V}) at (full s) (left_of i)

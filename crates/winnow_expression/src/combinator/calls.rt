@@ -2,7 +2,8 @@
 ghost use Rattle.std.specs.Prelude.{◌≡◌, ◌≤◌, ◌≤ℤ◌, ◌<ℤ◌, ◌↔◌, IsTrue, IsFalse, OnErr, OnOk};
 ghost use Rattle.std.specs.Prelude.{Some};
 ghost use Rattle.std.specs.Prelude.{vec_capacity, vec_len};
-ghost use Rattle.winnow_expression.specs.Calls.{Interrupts, call_at, call_of, calls_of, open_of};
+ghost use Rattle.winnow_expression.specs.Calls.{Interrupts, call_of, calls_of, open_of};
+ghost use Rattle.parser_definitions.specs.Expression.{call_at};
 ghost use Rattle.winnow_expression.specs.Calls.{asked, greatest, with_infix};
 
 use std::alloc::Allocator;

@@ -1,9 +1,12 @@
 use Rattle.std.proofs.Common.{Err}
-use Rattle.winnow_expression.specs.Did.Trees.{expression_came}
+use Rattle.parser_definitions.specs.Left.{left_of}
+use Rattle.parser_definitions.specs.Outcome.{setting_of}
+use Rattle.winnow_expression.specs.Did.{is_here}
+use Rattle.winnow_expression.specs.Did.Steps.{four_parts}
 use Rattle.winnow_expression.specs.Folds.{FoldsLeaveEnds}
 use Rattle.winnow_expression_trees.proofs.EndsOnce.{ends_once}
 use Rattle.winnow_expression_trees.proofs.FourParts.{plain_parts}
-use Rattle.winnow_expression_trees.proofs.Whole.{expression_exact, expression_fails, one_tree_at}
+use Rattle.winnow_expression_trees.proofs.Whole.{expression_exact, expression_fails}
 use Rattle.winnow_expression_trees.proofs.laws.expression_is_unambiguous.Goals as goal
 
 pub returns : goal.returns
@@ -19,17 +22,16 @@ returns g c =
       behind = g.met.G.FoldUnary.leaves_ends;
       between = g.met.H.FoldBinary.leaves_ends;
     } in
-    let came = expression_came reading form g.P.Parser.does g.Pre.Parser.does g.Post.Parser.does
-    g.Pix.Parser.does folds in
     record {
       exact = λ s pr i answer t j ran.
-          let (u, k, runs, same) = came s i answer t j ran in
-          one_tree_at answer t u j k same
-          (expression_exact (plain s.0.0 s.0.1 s.1.0 s.1.1 pr) s.2 i answer (u.0, u.1) k runs.0);
+          expression_exact (four_parts reading (setting_of form i) g.P.Parser.does
+          g.Pre.Parser.does g.Post.Parser.does g.Pix.Parser.does folds)
+          (plain s.0.0 s.0.1 s.1.0 s.1.1 pr) s.2 (left_of i) answer t j
+          (is_here (setting_of form i) ran.1 ran.2) ran.3;
       fails = λ s pr i k t j ran other.
-          let (u, n, runs, same) = came s i (Err k) t j ran in
-          expression_fails k (one_tree_at (Err k) t u j n same
-          (expression_exact (plain s.0.0 s.0.1 s.1.0 s.1.1 pr) s.2 i (Err k) (u.0, u.1) n runs.0))
-          other;
+          expression_fails k (expression_exact (four_parts reading (setting_of form i)
+          g.P.Parser.does g.Pre.Parser.does g.Post.Parser.does g.Pix.Parser.does folds)
+          (plain s.0.0 s.0.1 s.1.0 s.1.1 pr) s.2 (left_of i) (Err k) t j
+          (is_here (setting_of form i) ran.1 ran.2) ran.3) other;
       ended = λ s pr. ends_once (plain s.0.0 s.0.1 s.1.0 s.1.1 pr);
     }

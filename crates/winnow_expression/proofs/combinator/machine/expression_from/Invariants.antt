@@ -4,7 +4,8 @@ use Rattle.winnow_expression.specs.Grammar.{folding, grammar}
 use Rattle.streams.specs.Input.{IsEndOf}
 use Rattle.stream_errors.specs.Form.{assert_kind}
 use Rattle.winnow_expression.specs.Units.{units_left}
-use Rattle.winnow_expression.specs.Calls.{call_at, call_of, calls_of, opens_of}
+use Rattle.winnow_expression.specs.Calls.{call_of, calls_of, opens_of}
+use Rattle.parser_definitions.specs.Expression.{call_at}
 use Rattle.winnow_expression.proofs.Loop.{Invariant, rank}
 use Rattle.winnow_expression.proofs.combinator.machine.expression_from.Given as goal
 
