@@ -53,16 +53,6 @@ module _ {Q T O : Type 0} (at : Setting) (R : Answer O → Q → Input T → Typ
       → R a e.0 (here at e.1) → Came at R y
   came_by a e is r = subst (λ y. Came at R y) (sym is) (came_of a e r)
 
-pub came_map : {Q T O : Type 0} (at : Setting) {R : Answer O → Q → Input T → Type 0}
-    {M : Answer O → Q → Input T → Type 0}
-    → ((a : Answer O) (t : Q) (j : Input T) → R a t j → M a t j) → (y : Outcome (End Q T) O)
-    → Came at R y → Came at M y
-came_map at f (took o e) r = f (Ok o) e.0 (here at e.1) r
-came_map at f (backs e) r = f (Err backtrack) e.0 (here at e.1) r
-came_map at f (cuts e) r = f (Err cut) e.0 (here at e.1) r
-came_map at f (asks need e) r = f (Err (incomplete need)) e.0 (here at e.1) r
-came_map at f wants (e, r) = (e, f (Err memory) e.0 (here at e.1) r)
-
 -- of a part's outcome, for the state of the whole
 pub came_in : {S Q T O : Type 0} (at : Setting) (put : Q → S → Q) (q : Q) (w : Left T)
     {R : Answer O → S → Input T → Type 0} (M : Answer O → Q → Input T → Type 0)
