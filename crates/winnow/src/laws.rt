@@ -26,7 +26,6 @@ pub use winnow_core::laws::{
 };
 pub use winnow_escapes::laws::{
     a_byte_control_is_settled, controls_of_one_token_are_settled,
-    escaped_bytes_and_the_rest_are_the_input, escaped_text_and_the_rest_are_the_input,
     the_escaped_slice_and_the_rest_are_the_input,
 };
 pub use winnow_expression_trees::laws::parts::{
@@ -38,9 +37,7 @@ pub use winnow_expression_trees::laws::{
 };
 pub use winnow_grammar::laws::longer_inputs_get_partial_results;
 pub use winnow_integers::laws::little_endian_is_big_endian_of_the_reversed_bytes;
-pub use winnow_recovery::laws::{
-    no_errors_mean_success, resume_after_leaves_a_suffix, retry_after_leaves_a_suffix,
-};
+pub use winnow_recovery::laws::no_errors_mean_success;
 pub use winnow_repeat::laws::repeat_runs_at_most_once_a_unit;
 pub use winnow_separated::laws::{
     separated_folds_agree, separated_leaves_a_separator_without_an_element,

@@ -1,7 +1,6 @@
 //! Laws of text with escapes, each proved by a function that does nothing.
 ghost use Rattle.parser_definitions.specs.Does.{Ran};
 ghost use Rattle.std.specs.Prelude.{List};
-ghost use Rattle.std.specs.Str.{chars};
 ghost use Rattle.parser_definitions.specs.Escaped.{Settled};
 ghost use Rattle.winnow_core.specs.Laws.{ShowsOne, TakesFromTheFront};
 ghost use Rattle.winnow_escapes.specs.Controls.{NeverShort};
@@ -14,42 +13,6 @@ use stream_sets::sets::ContainsToken;
 use streams::stream::{Stream, StreamIsPartial};
 use winnow_core::parser::Parser;
 use winnow_token::token::impls::{Any, NoneOf, OneOf};
-
-/// States that over bytes the slice of [`take_escaped`](crate::ascii::take_escaped) followed by the
-/// rest is the original input.
-pub fn escaped_bytes_and_the_rest_are_the_input<
-    'a,
-    N: Parser<&'a [u8], O, E>,
-    K: Parser<&'a [u8], D, ControlError>,
-    X: Parser<&'a [u8], P, E>,
-    O: Drop,
-    D: Drop,
-    P: Drop,
-    E: ParserError<&'a [u8]>,
->()
-    ensures { TakesFromTheFront (λ slice. slice.now)
-        (Ran ⟦<&'a [u8] as Stream>⟧.reading
-        ⟦<TakeEscaped<N, K, X, &'a [u8], O, D, P, E> as Parser<&'a [u8], &'a [u8], E>>⟧.does
-        E.form) }
-{}
-
-/// States that over text the slice of [`take_escaped`](crate::ascii::take_escaped) followed by the
-/// rest is the original input.
-pub fn escaped_text_and_the_rest_are_the_input<
-    'a,
-    N: Parser<&'a str, O, E>,
-    K: Parser<&'a str, D, ControlError>,
-    X: Parser<&'a str, P, E>,
-    O: Drop,
-    D: Drop,
-    P: Drop,
-    E: ParserError<&'a str>,
->()
-    ensures { TakesFromTheFront (λ slice. chars slice.now)
-        (Ran ⟦<&'a str as Stream>⟧.reading
-        ⟦<TakeEscaped<N, K, X, &'a str, O, D, P, E> as Parser<&'a str, &'a str, E>>⟧.does
-        E.form) }
-{}
 
 /// States that the tokens of the slice of [`take_escaped`](crate::ascii::take_escaped) followed by
 /// the rest are the original input. The stream must have a function that gives the tokens of each
