@@ -28,10 +28,6 @@ returns-then-eof_offset-left-clause-ran g c =
     c.in-Ok.ensures.ran same)
     _ c.assert.ensures
 
-pub returns-then-eof_offset-left-clause-stored : goal.returns-then-eof_offset-left-clause-stored
-returns-then-eof_offset-left-clause-stored g c =
-    let p = c.items.invariant.stored in (p.outputs, _, _, p.items, p.written)
-
 pub returns-then-eof_offset-left-clause-reads : goal.returns-then-eof_offset-left-clause-reads
 returns-then-eof_offset-left-clause-reads g c is soft consumes whole =
     let same = same_units g.I.Stream.reading _ _ c.in-Ok.ensures.ran.0 (omega arith) in
@@ -55,10 +51,6 @@ returns-then-count-slice-clause-ran g c =
     (omega arith) _ (too_many_by_kind g.E.FromExternalError.external_gives _ _ given) given _
     (search rules depth 1)
 
-pub returns-then-count-slice-clause-stored : goal.returns-then-count-slice-clause-stored
-returns-then-count-slice-clause-stored g c =
-    let p = c.items.invariant.stored in (p.outputs, _, _, p.items, p.written)
-
 pub returns-then-count-slice-clause-reads : goal.returns-then-count-slice-clause-reads
 returns-then-count-slice-clause-reads g c is soft consumes whole =
     full_read g.I.Stream.reading g.E.HasKind.form
@@ -79,10 +71,6 @@ returns-then-is_backtrack-clause-ran g c =
     c.in-Err.ensures.ran)
     _ (search rules depth 1)
 
-pub returns-then-is_backtrack-clause-stored : goal.returns-then-is_backtrack-clause-stored
-returns-then-is_backtrack-clause-stored g c =
-    let p = c.items.invariant.stored in (p.outputs, _, _, p.items, p.written)
-
 pub returns-then-is_backtrack-clause-reads : goal.returns-then-is_backtrack-clause-reads
 returns-then-is_backtrack-clause-reads g c is soft consumes whole =
     counted_read g.I.Stream.reading g.E.HasKind.form
@@ -102,10 +90,6 @@ returns-in-Err-clause-ran g c =
     (item_failed g.I.Stream.reading g.P.Parser.does g.E.HasKind.form _ _
     (g.P.Parser.state c.parse_next.new.self) _ (g.E.HasKind.kind c.in-Err.error)
     c.in-Err.ensures.ran)
-
-pub returns-in-Err-clause-stored : goal.returns-in-Err-clause-stored
-returns-in-Err-clause-stored g c =
-    let p = c.items.invariant.stored in (p.outputs, _, _, p.items, p.written)
 
 pub returns-in-Err-clause-reads : goal.returns-in-Err-clause-reads
 returns-in-Err-clause-reads g c is soft consumes whole =
