@@ -1,3 +1,4 @@
+pub mod Completions
 pub mod Extents
 pub mod Opened
 pub mod Passes

@@ -20,7 +20,7 @@ use Rattle.format_json_pieces.proofs.Passes.Values.{after_gap, inner_on, space_b
 use Rattle.format_json_pieces.proofs.Passes.Values.{value_here, value_on}
 use Rattle.format_json_pieces.proofs.Walks.{Started, any, begun_front, walked_one}
 use Rattle.format_json_pieces.specs.Begun.{IsViablePrefix, IsWalked, MayBegin}
-use Rattle.format_json_pieces.specs.Value.{InUtf8, IsNext, IsValueIn}
+use Rattle.format_json_pieces.specs.Value.{BeginsText, BeginsValue, InUtf8, IsNext, IsValueIn}
 use Rattle.format_json_pieces.specs.declared.begun.Bracket.TheVariants.{Whole}
 use Rattle.format_json_pieces.specs.declared.begun.Mode.TheVariants as modes
 use Rattle.format_json_pieces.proofs.ValueLemmas.{value_ends}
@@ -86,11 +86,10 @@ module _ {A : Type 0} (level : ℕ) where
       (after_gap any deep [] Whole []))).on (chars bytes) []
       (text_of level v (chars bytes) written) (λ scalars. tt)))
 
-  pub none_begins_so : (bytes : List ℕ) → (MayBegin level bytes → ⊥) → (v : Value A)
-      (more : List ℕ) → InUtf8 (JsonText HasCharacters level) v (bytes ++ more) → ⊥
-  none_begins_so bytes not v more text =
-      not (begun_front (suc level) bytes more modes.Value (Whole ∷ [])
-      (text_may_begin (bytes ++ more) v text))
+  pub text_begun : (bytes : List ℕ) → BeginsText A level bytes → MayBegin level bytes
+  text_begun bytes (more, v, text) =
+      begun_front (suc level) bytes more modes.Value (Whole ∷ [])
+      (text_may_begin (bytes ++ more) v text)
 
 -- ---- whitespace before a value
 
@@ -110,6 +109,12 @@ unfolding IsNext
 next_walked level ends bytes v rest (gap, start, all, e, x) ended =
     subst (λ l. IsWalked ends level modes.Value [] l) (sym e)
     (gap_walked ends level gap start all (value_walked level ends start v rest x ended))
+
+pub value_begun : {A : Type 0} (level : ℕ) (bytes : List ℕ) → BeginsValue A level bytes
+    → IsViablePrefix level modes.Value [] bytes
+value_begun level bytes (more, v, rest, x) =
+    begun_front level bytes more modes.Value []
+    (next_walked level any (bytes ++ more) v rest x tt)
 
 -- after whitespace too
 pub asks_next : (level : ℕ) (bytes gap left : List ℕ) → bytes ≡ gap ++ left

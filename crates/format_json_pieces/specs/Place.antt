@@ -5,6 +5,7 @@ use Rattle.std.specs.Prelude.{None, length, ⊤}
 use Rattle.std.specs.Option.{option_to_list}
 use Rattle.format_json_pieces.specs.Begun.{IsViablePrefix, last_open, next_step}
 use Rattle.format_json_pieces.specs.Inside.{expected}
+use Rattle.format_json_pieces.specs.Value.{BeginsText}
 use Rattle.format_json_pieces.specs.declared.begun.Bracket.{Bracket}
 use Rattle.format_json_pieces.specs.declared.begun.Bracket.TheVariants.{Array, Object, Whole}
 use Rattle.format_json_pieces.specs.declared.begun.Mode.{Mode}
@@ -124,3 +125,16 @@ module _ (level : ℕ) (outer : Option Bracket) where
 -- `IsPlace level bytes offset expected`: such a place in a JSON text.
 abbrev pub IsPlace : ℕ → List ℕ → ℕ → Expected → Type 0
 IsPlace level = IsPlaceIn level (Some Whole)
+
+module _ (A : Type 0) (level : ℕ) where
+  -- No text has the first bytes and the next one; or none follows.
+  abbrev pub NoneGoesOn : List ℕ → List ℕ → Type 0
+  NoneGoesOn front [] = ⊤
+  NoneGoesOn front (b ∷ rest) = BeginsText A level (front ++ b ∷ []) → ⊥
+
+  -- `IsLongestPrefix bytes offset`: the bytes before the offset are the longest prefix of `bytes`
+  -- that is one of a JSON text.
+  abbrev pub IsLongestPrefix : List ℕ → ℕ → Type 0
+  IsLongestPrefix bytes offset =
+      (front : List ℕ) × (rest : List ℕ) × (bytes ≡ front ++ rest) × (length front ≡ offset)
+      × BeginsText A level front × NoneGoesOn front rest

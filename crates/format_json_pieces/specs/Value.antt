@@ -7,7 +7,7 @@ use Rattle.streams.specs.declared.needed.Needed.{Needed}
 use Rattle.stream_errors.specs.declared.fault.ParseFault.{ParseFault}
 use Rattle.stream_errors.specs.declared.fault.ParseFault.TheVariants.{Incomplete, Invalid}
 use Rattle.stream_sets.specs.AsChar.{IsMultispace}
-use Rattle.format_json_texts.specs.Values.{ValueText}
+use Rattle.format_json_texts.specs.Values.{JsonText, ValueText}
 use Rattle.format_json_texts.specs.declared.value.Value.{Value}
 use Rattle.grammars.specs.Grammar.{Grammar}
 use Rattle.stream_sets.specs.Accumulator.Holds.{HasCharacters}
@@ -39,6 +39,20 @@ module _ {A : Type 0} (level : ℕ) where
   IsNext bytes (Some v) rest =
       (gap : List ℕ) × (start : List ℕ) × All IsMultispace gap × (bytes ≡ gap ++ start)
       × IsValueIn start v rest
+
+-- values of strings and lists that `A` allocates
+module _ (A : Type 0) (level : ℕ) where
+  -- `BeginsValue bytes`: `bytes` is a prefix of bytes with such a value at their start, after
+  -- whitespace.
+  abbrev pub BeginsValue : List ℕ → Type 0
+  BeginsValue bytes =
+      (more : List ℕ) × (v : Value A) × (rest : List ℕ) × IsNext level (bytes ++ more) (Some v) rest
+
+  -- `BeginsText bytes`: `bytes` is a prefix of a JSON text in UTF-8, whose arrays and objects are
+  -- nested at most `level` deep.
+  abbrev pub BeginsText : List ℕ → Type 0
+  BeginsText bytes =
+      (more : List ℕ) × (v : Value A) × InUtf8 (JsonText HasCharacters level) v (bytes ++ more)
 
 -- `IsRefusedAt n fault`: the error is at offset `n`.
 abbrev pub IsRefusedAt : {I X : Type 0} → ℕ → ParseFault I X Needed → Type 0

@@ -285,15 +285,16 @@ impl ValueExtent {
     /// After a value or an error the extent is as [`ValueExtent::new`] makes it. So the next call,
     /// with the bytes after the value, finds the next value.
     ///
-    /// The bytes of the value must be UTF-8. Each value is found, and no value ends elsewhere
-    /// ([`laws`](crate::laws)); that all that is found is a value, is only tested. The result is
-    /// specified only if the extent and `brackets` are of these bytes: if they were used for
-    /// others, the result may be wrong, but it is an offset in the bytes.
+    /// The bytes of the value must be UTF-8. Each value is found, all that is found is a value, and
+    /// no value ends elsewhere ([`laws`](crate::laws)). The result is specified only if the extent
+    /// and `brackets` are of these bytes: if they were used for others, the result may be wrong,
+    /// but it is an offset in the bytes.
     ///
     /// # Errors
     ///
     /// [`Invalid`]: the offset of the first byte with which no value continues, regardless of what
-    /// follows, and the reason, which is never `Unfinished`.
+    /// follows, and the reason, which is never `Unfinished`. The bytes before it can continue to a
+    /// value.
     ///
     /// ```
     /// use format_json_pieces::extent::ValueExtent;

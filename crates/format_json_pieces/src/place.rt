@@ -1,13 +1,11 @@
 //! The first offset at which a scan of a JSON text rejects a byte.
 ghost use Rattle.format_json_pieces.specs.Begun.{MayBegin};
-ghost use Rattle.format_json_pieces.specs.Place.{IsPlace, IsPlaceIn};
-ghost use Rattle.format_json_pieces.specs.Value.{InUtf8};
+ghost use Rattle.format_json_pieces.specs.Place.{IsLongestPrefix, IsPlace, IsPlaceIn};
+ghost use Rattle.format_json_pieces.specs.Value.{BeginsText};
+ghost use Rattle.format_json_pieces.specs.declared.expected.Expected.{Expected};
 ghost use Rattle.format_json_pieces.specs.declared.expected.Expected.TheVariants as what;
-ghost use Rattle.format_json_texts.specs.Values.{JsonText};
-ghost use Rattle.format_json_texts.specs.declared.value.Value.{Value};
 ghost use Rattle.std.specs.Option.{option_to_list};
-ghost use Rattle.std.specs.Prelude.{◌≡◌, ◌++◌, ℕ, List, IfOk, length};
-ghost use Rattle.stream_sets.specs.Accumulator.Holds.{HasCharacters};
+ghost use Rattle.std.specs.Prelude.{◌≡◌, ◌<◌, ◌^◌, ℕ, List, IfOk, length};
 
 use crate::begun::{Bracket, Mode, Step, next_step};
 use crate::expected::{Expected, wanted};
@@ -31,9 +29,10 @@ pub struct Place {
 }
 
 /// Returns the first offset at which the scan of a JSON text, whose arrays and objects are nested
-/// at most `level` deep, rejects a byte. With this byte no text continues, regardless of what
-/// follows. That the bytes before it can continue to a text is only tested. If the scan accepts all
-/// of the bytes, the offset is their end.
+/// at most `level` deep, rejects a byte. The bytes before it can continue to a text, and with this
+/// byte they cannot, regardless of what follows
+/// ([law](places_are_ends_of_longest_prefixes)). If the scan accepts all of the bytes, the offset
+/// is their end.
 ///
 /// Fails if memory allocation fails: one byte is held for each open bracket.
 ///
@@ -131,18 +130,42 @@ fn end_of(bytes: &[u8]) -> Place
     }
 }
 
-/// Bytes that the walk of [`first_place`] rejects at a level begin no JSON text. No continuation of
-/// them is the text of a value at this level.
+/// Bytes are accepted by the walk of [`first_place`] if and only if some JSON text starts with
+/// them,
+/// at the same level. So each prefix that the walk accepts has a continuation that is a text, and
+/// bytes that it rejects have none.
+///
+/// For the first, an allocator makes the value, and its strings and lists have fewer than 2⁶³ bytes
+/// or items, as a slice has. Therefore the bytes are fewer than 2⁶¹.
 ///
 /// ```
-/// use format_json_pieces::place::no_text_begins_otherwise;
+/// use format_json_pieces::place::prefixes_are_those_of_texts;
 /// use std::alloc::Allocator;
 ///
 /// fn of_an_allocator<A: Allocator>() {
-///     no_text_begins_otherwise::<A>();
+///     prefixes_are_those_of_texts::<A>();
 /// }
 /// ```
-pub fn no_text_begins_otherwise<A: Allocator>()
-    ensures { (level : ℕ) (bytes : List ℕ) → (MayBegin level bytes → ⊥) → (v : Value A)
-        (more : List ℕ) → InUtf8 (JsonText HasCharacters level) v (bytes ++ more) → ⊥ }
+pub fn prefixes_are_those_of_texts<A: Allocator>()
+    ensures there { (alloc : A) (level : ℕ) (bytes : List ℕ) → length bytes < 2 ^ 61
+        → MayBegin level bytes → BeginsText A level bytes }
+    ensures back { (level : ℕ) (bytes : List ℕ) → BeginsText A level bytes
+        → MayBegin level bytes }
+{}
+
+/// The bytes before the offset of [`first_place`] are the longest prefix that is one of a JSON text
+/// at the level: some text starts with them, and none with these and the next byte.
+///
+/// ```
+/// use format_json_pieces::place::places_are_ends_of_longest_prefixes;
+/// use std::alloc::Allocator;
+///
+/// fn of_an_allocator<A: Allocator>() {
+///     places_are_ends_of_longest_prefixes::<A>();
+/// }
+/// ```
+pub fn places_are_ends_of_longest_prefixes<A: Allocator>()
+    ensures { (alloc : A) (level : ℕ) (bytes : List ℕ) (offset : ℕ) (expected : Expected)
+        → length bytes < 2 ^ 61 → IsPlace level bytes offset expected
+        → IsLongestPrefix A level bytes offset }
 {}

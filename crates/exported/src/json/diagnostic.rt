@@ -178,9 +178,9 @@ fn is_text(max_depth: usize, text: &[u8]) -> bool
 /// Checks a text as `exported_json_check` does, and reports the first error: its offset, line and
 /// column, and the input that is expected there.
 ///
-/// With the byte at the offset no text continues, for any continuation. That the bytes before it
-/// can continue to a text is only tested. Nothing is allocated for a text that is JSON; for others,
-/// one byte for each open bracket.
+/// The bytes before the offset can continue to a text. With the byte there, or the bytes there that
+/// are not UTF-8, they cannot, for any continuation. Nothing is allocated for a text that is JSON;
+/// for others, one byte for each open bracket.
 ///
 /// `DONE`: the text is a JSON text. Zeros are written.
 ///
