@@ -16,7 +16,7 @@ TOP = HERE.parent
 sys.path.insert(0, str(TOP / "scripts"))
 from laid import copy_crate, library  # noqa: E402
 
-READERS = ("readers", "format_json_values", "format_csv", "format_resp")
+READERS = ("readers", "format_json_values", "format_csv", "format_resp", "machines")
 TIMED = f"timed staticlib: winnow format_json_texts {' '.join(READERS)}"
 
 

@@ -31,9 +31,15 @@ GIVEN = {
     "&[u8]": "&text",
     "&'static [u8]": 'b"ab"',
     "&mut Outcome": "&mut out",
+    "usize": "1",
 }
 # The LLVM types of an export's parameters. A `Global` is not passed.
-CROSSES = {"Global": [], "&[u8]": ["ptr", "i64"], "&'static [u8]": ["ptr", "i64"]}
+CROSSES = {
+    "Global": [],
+    "&[u8]": ["ptr", "i64"],
+    "&'static [u8]": ["ptr", "i64"],
+    "usize": ["i64"],
+}
 
 
 

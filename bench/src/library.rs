@@ -2,6 +2,7 @@
 use crate::outcome::Outcome;
 
 type Text = unsafe extern "C" fn(*const u8, usize, *mut Outcome);
+type Chunks = unsafe extern "C" fn(usize, *const u8, usize, *mut Outcome);
 
 extern "C" {
     fn timed_document(text: *const u8, size: usize, out: *mut Outcome);
@@ -27,6 +28,9 @@ extern "C" {
     fn timed_replies(text: *const u8, size: usize, out: *mut Outcome);
     fn timed_number_items(text: *const u8, size: usize, out: *mut Outcome);
     fn timed_number_lists(text: *const u8, size: usize, out: *mut Outcome);
+    fn timed_heads_in_chunks(chunk: usize, text: *const u8, size: usize, out: *mut Outcome);
+    fn timed_frames_in_chunks(chunk: usize, text: *const u8, size: usize, out: *mut Outcome);
+    fn timed_lines_in_chunks(chunk: usize, text: *const u8, size: usize, out: *mut Outcome);
     fn timed_until(
         literal: *const u8,
         length: usize,
@@ -75,6 +79,25 @@ workloads! {
     replies = timed_replies;
     number_items = timed_number_items;
     number_lists = timed_number_lists;
+}
+
+fn call_in_chunks(export: Chunks, chunk: usize, text: &[u8]) -> Outcome {
+    let mut out = Outcome::default();
+    // SAFETY: as in `call`.
+    unsafe { export(chunk, text.as_ptr(), text.len(), &mut out) };
+    out
+}
+
+pub fn heads_in_chunks(chunk: usize, text: &[u8]) -> Outcome {
+    call_in_chunks(timed_heads_in_chunks, chunk, text)
+}
+
+pub fn frames_in_chunks(chunk: usize, text: &[u8]) -> Outcome {
+    call_in_chunks(timed_frames_in_chunks, chunk, text)
+}
+
+pub fn lines_in_chunks(chunk: usize, text: &[u8]) -> Outcome {
+    call_in_chunks(timed_lines_in_chunks, chunk, text)
 }
 
 pub fn until(text: &[u8], literal: &'static [u8]) -> Outcome {

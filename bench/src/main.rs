@@ -83,8 +83,7 @@ fn counted_run(reader: &Reader, text: &[u8]) -> Outcome {
 /// Runs one reader of a workload once, selected by its index, and prints the size of the text in
 /// bytes, and the number of allocations if they are counted.
 fn run_once(name: &str, place: usize) {
-    let all = workloads::all();
-    let workload = all.iter().find(|workload| workload.name == name).expect("a workload");
+    let workload = workloads::named(name).expect("a workload");
     let text = (workload.text)(MIDDLE);
     let readers = [Some(&workload.library), Some(&workload.nom), workload.hand.as_ref()];
     let reader = readers[place].expect("a reader");

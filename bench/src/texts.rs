@@ -150,6 +150,16 @@ pub fn records(size: usize) -> Vec<u8> {
     })
 }
 
+/// Generates frames: a length up to 127 in digits, a colon, as many letters, and a comma.
+pub fn frames(size: usize) -> Vec<u8> {
+    parts(size, |dice, out| {
+        let length = dice.below(128);
+        out.extend(format!("{length}:").bytes());
+        dice.letters(out, length);
+        out.push(b',');
+    })
+}
+
 /// Generates an expression of digits from 1 to 9, separated by one of four operators.
 pub fn expression(size: usize) -> Vec<u8> {
     let mut all = parts(size, |dice, out| {

@@ -1,8 +1,11 @@
 //! The workloads: their input texts, and their readers.
 use crate::outcome::Outcome;
 use crate::{by_hand, by_nom, library, texts};
+use std::mem::ManuallyDrop;
 
 pub type Reader = Box<dyn Fn(&[u8]) -> Outcome>;
+/// A reader of a text that arrives in chunks of a size.
+type InChunks = fn(usize, &[u8]) -> Outcome;
 
 pub struct Workload {
     pub name: String,
@@ -33,6 +36,25 @@ impl Workload {
         self
     }
 
+    /// The workloads of a text that arrives whole, and in chunks of three sizes.
+    fn in_chunks(
+        what: &str,
+        text: fn(usize) -> Vec<u8>,
+        library: InChunks,
+        nom: InChunks,
+        hand: InChunks,
+    ) -> impl Iterator<Item = Workload> + '_ {
+        CHUNKS.into_iter().map(move |(how, chunk)| {
+            Workload::new(
+                &format!("{what} by a machine, {how}"),
+                text,
+                move |text| library(chunk, text),
+                move |text| nom(chunk, text),
+            )
+            .by_hand(move |text| hand(chunk, text))
+        })
+    }
+
     fn search(name: &str, literal: &'static [u8], every: usize, alone: usize) -> Workload {
         Workload::new(
             name,
@@ -43,9 +65,15 @@ impl Workload {
     }
 }
 
+const CHUNKS: [(&str, usize); 4] = [
+    ("whole", usize::MAX),
+    ("chunks of 1,000", 1000),
+    ("chunks of 16", 16),
+    ("chunks of 1", 1),
+];
 const LONG: &[u8] = b"<!-- the end of the part that is hidden>";
 
-pub fn all() -> Vec<Workload> {
+fn of_whole_texts() -> Vec<Workload> {
     let mut all = vec![
         Workload::new("an INI document", texts::document, library::document, by_nom::document)
             .by_hand(by_hand::document),
@@ -145,4 +173,46 @@ pub fn all() -> Vec<Workload> {
         }
     }
     all
+}
+
+fn of_chunks() -> Vec<Workload> {
+    let mut all = Vec::new();
+    all.extend(Workload::in_chunks(
+        "heads",
+        texts::heads,
+        library::heads_in_chunks,
+        by_nom::heads_in_chunks,
+        by_hand::heads_in_chunks,
+    ));
+    all.extend(Workload::in_chunks(
+        "frames",
+        texts::frames,
+        library::frames_in_chunks,
+        by_nom::frames_in_chunks,
+        by_hand::frames_in_chunks,
+    ));
+    all.extend(Workload::in_chunks(
+        "lines",
+        texts::csv,
+        library::lines_in_chunks,
+        by_nom::lines_in_chunks,
+        by_hand::lines_in_chunks,
+    ));
+    all
+}
+
+const LISTS: [fn() -> Vec<Workload>; 2] = [of_whole_texts, of_chunks];
+
+pub fn all() -> Vec<Workload> {
+    LISTS.iter().flat_map(|list| list()).collect()
+}
+
+/// Returns the workload with this name. Only the lists up to its own are made, and they are not
+/// freed: the instructions of the allocator depend on what was allocated before.
+pub fn named(name: &str) -> Option<Workload> {
+    LISTS.iter().find_map(|list| {
+        let mut list = ManuallyDrop::new(list());
+        let at = list.iter().position(|workload| workload.name == name)?;
+        Some(list.swap_remove(at))
+    })
 }

@@ -3,6 +3,7 @@
 
 pub mod binary;
 pub mod bits;
+pub mod chunks;
 pub mod documents;
 pub mod escapes;
 pub mod fields;
