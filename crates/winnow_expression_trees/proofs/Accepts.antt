@@ -22,7 +22,8 @@ use Rattle.winnow_expression.specs.Parts.{PartsDo, did_grammar}
 use Rattle.winnow_expression.specs.declared.combinator.operators.Infix.{Infix}
 use Rattle.winnow_expression.specs.declared.combinator.operators.Postfix.{Postfix}
 use Rattle.winnow_expression.specs.declared.combinator.operators.Prefix.{Prefix}
-use Rattle.winnow_expression_trees.specs.Accepting.{AcceptingDo, AssertingDo, FoldAnswers, FoldFails}
+use Rattle.winnow_expression_trees.specs.Accepting.{AcceptingDo, AssertingDo}
+use Rattle.winnow_expression_trees.specs.Accepting.{FoldAnswers, FoldFails}
 use Rattle.winnow_expression_trees.specs.Accepting.{IsTook, Sure, accepted, both_accepted}
 use Rattle.winnow_expression_trees.specs.Premises.{NotMemory}
 use Rattle.winnow_expression_trees.proofs.Within.{Ends, Fine, trees_map}
@@ -118,7 +119,8 @@ module _ {S1 S2 S3 S4 T V L F G H : Type 0} (reading : Reading T L) (form : Erro
       i answer t j
       → Ran reading (AcceptingDo reading d1 d2 d3 d4 before behind between) form s i answer t j
   asserting_accepts (ends, more, possible, did) =
-      let other = operators reading.units (accepted before) (accepted behind) (both_accepted between)
+      let other = operators reading.units (accepted before) (accepted behind) (both_accepted
+      between)
       in
       elim (trees_map other (One (Sure first)) (One first) (Two (Sure next)) (Two next) other.before
       other.behind other.between at (λ k. ⊤) (λ k l. ⊥) (record {

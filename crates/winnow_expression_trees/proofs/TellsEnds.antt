@@ -1,5 +1,6 @@
 -- What the ends of calls tell: the value of the tree that was read, or why the call fails.
-use Rattle.std.specs.Prelude.{◌≡◌, ◌⊎◌, ◌<ℤ◌, ◌≤ℤ◌, ℕ, ℤ, Bool, true, false, List, Option, Some, None}
+use Rattle.std.specs.Prelude.{◌≡◌, ◌⊎◌, ◌<ℤ◌, ◌≤ℤ◌, ℕ, ℤ, Bool, true, false, List, Option}
+use Rattle.std.specs.Prelude.{Some, None}
 use Rattle.std.specs.Prelude.{Ok, Err}
 use Rattle.std.proofs.Common.{refl, sym, ◌∙◌, ap, subst, inl, inr, arith}
 use Rattle.std.specs.Int.Signed.{clash_ℤ}
@@ -7,6 +8,7 @@ use Rattle.streams.specs.Input.{Input}
 use Rattle.streams.specs.Kind.{Kind, backtrack, cut, incomplete, memory}
 use Rattle.streams.specs.Reading.{Reading}
 use Rattle.stream_errors.specs.Form.{Answer, assert_kind}
+use Rattle.stream_errors.specs.Form.Inversion.{same_err}
 use Rattle.parser_definitions.specs.Expression.{Call, JoinEnds, Open}
 use Rattle.parser_definitions.specs.Expression.{all_end, fails_as, first_last}
 use Rattle.parser_definitions.specs.Expression.{next_last}
@@ -89,7 +91,12 @@ module _ {S W T L V F G H : Type 0} {reading : Reading T L} {at : Setting}
       let ran = subst (λ z. run_next z (here at w) (Err k) e.0.1 (here at e.1)) es.1 r in
       failed pr level start at call.least begin k e is
       (λ other. inl (
-        inl (inr (here at w, e.0.1, comes_left pr level start call begin left (here at w) known, ran)),
+        inl (inr (
+          here at w,
+          e.0.1,
+          comes_left pr level start call begin left (here at w) known,
+          ran,
+        )),
         λ u n b reads.
             let (l, like, grows) = known.sees u n b reads in
             let (x, m, step_, more) = grows_as first next call.least l (here at w) u n b grows in
@@ -106,8 +113,9 @@ module _ {S W T L V F G H : Type 0} {reading : Reading T L} {at : Setting}
   postfix_fails call begin left w power fold e y known own reaches (Ok o) k c f = absurd f
   postfix_fails call begin left w power fold e y known own reaches (Err kind) k
       (inl (other, bad, is)) f =
-      let same_ : kind ≡ other = cc in
-      let folds = subst (λ z. behind_ at.form fold (here at e.1) left (Err z) (here at k)) (sym same_)
+      let same_ = same_err refl is in
+      let folds = subst (λ z. behind_ at.form fold (here at e.1) left (Err z) (here at k)) (sym
+      same_)
       bad in
       failed pr level start at call.least begin kind (e.0, k) (fails_is V e.0 kind k y f)
       (λ other. inr (
@@ -138,7 +146,8 @@ module _ {S W T L V F G H : Type 0} {reading : Reading T L} {at : Setting}
                   let (v, (x, vx, m, z, does)) = grows_value pr call.least (behind power q l)
                   (here at e.1) u n b more x val in
                   (pr.behinds fold q also).same left x (here at e.1) (here at k) m z (Err kind)
-                  (Ok v) (value_alike pr known.tree l like left x known.value vx) folds does other tt
+                  (Ok v) (value_alike pr known.tree l like left x known.value vx) folds does
+                  other tt
             ],
       ))
   postfix_fails call begin left w power fold e y known own reaches (Err kind) k
@@ -197,7 +206,8 @@ module _ {S W T L V F G H : Type 0} {reading : Reading T L} {at : Setting}
           let (b, k, told, is) = checks at units (units w.tokens)
           (λ b j. behind_ at.form x.1 (here at e.1) left b j)
           (folded (λ i a j. p.folds.behind at.form x.1 i left a j) f) c in
-          postfix_fails call begin left w x.0 x.1 e y known (own (Postfix x.0 x.1) e r).1 reaches b k
+          postfix_fails call begin left w x.0 x.1 e y known (own (Postfix x.0 x.1) e r).1
+          reaches b k
           told (subst (λ z. fails_as e.0 z y) is fails)
       by (took (Some (inr o)) e) (r, stays, same_) (inl (less, is)) =
           let (later, read) = own (infix_read o) e r in
@@ -333,7 +343,8 @@ module _ {S W T L V F G H : Type 0} {reading : Reading T L} {at : Setting}
 
       folds : (right : V) (all : Bool) (e : End Q T)
           → Told pr level start at power m (took (right, all) e) → (a : Answer V) (k : Left T)
-          → Closes g.folding (operator_kept x.operator) x.call.turn (here at e.1) right a (here at k)
+          → Closes g.folding (operator_kept x.operator) x.call.turn (here at e.1) right a (here
+          at k)
           → all_end e.0 all (outcome_of a k) y → Told pr level start at x.call.least begin y
       folds right true e (es, r0, over, keeps, known) (Ok v) k closes is =
           let (value, place) = o.gives r0 right v (here at e.1) (here at k) known closes in

@@ -89,7 +89,8 @@ module _ {S W T L V F G H : Type 0} {reading : Reading T L} {at : Setting}
         → call.neither ≡ None → call.began ≡ units w.tokens
         → StartsOperand g s0 level start call.least (here at w)
         → Told pr level start at call.least (here at w) y
-    tree_told call q w y (tree_ends d) es none began begins = tree_ended p pr level start call q w y d es begins
+    tree_told call q w y (tree_ends d) es none began begins =
+        tree_ended p pr level start call q w y d es begins
     tree_told call q w y (tree_operand {u = u} {m = m} v read tail) es none began begins =
         let (r, stays, same_) = first_at p q w (took (inl v) (u, m)) read in
         let own = own_first pr q.0 u.0 (here at w) (here at m) (Operand v) es.0 r in
@@ -108,7 +109,8 @@ module _ {S W T L V F G H : Type 0} {reading : Reading T L} {at : Setting}
               (here at m) reads own.1 in
               (leaf x, like, grows);
         })
-    tree_told call q w y (tree_prefix {u = u} {m = m} {z = z} x read less inner joined) es none began
+    tree_told call q w y (tree_prefix {u = u} {m = m} {z =
+        z} x read less inner joined) es none began
         begins =
         let (r, stays, same_) = first_at p q w (took (inr x) (u, m)) read in
         let own = own_first pr q.0 u.0 (here at w) (here at m) (prefix_read x.0 x.1) es.0 r in
@@ -171,7 +173,8 @@ module _ {S W T L V F G H : Type 0} {reading : Reading T L} {at : Setting}
         λ met. apart (known.top ∙ met) in
         join_told (opened (step.O p) call left o w) z y joined (right_power o) (here at m) begin
         (tree_told (call_at (right_power o) (units m.tokens)) u m z inner (stays ∙ es.0, own.0) refl
-        refl (begins_infix call.least (right_power o) begin (here at w) (here at m) o known.tree left
+        refl (begins_infix call.least (right_power o) begin (here at w) (here at m) o known.tree
+        left
         known.begins known.over known.value (
           left_takes pr level start call begin left (here at w) (here at m) (infix_read o)
               (left_power o) known own.1 refl reaches,
@@ -184,7 +187,8 @@ module _ {S W T L V F G H : Type 0} {reading : Reading T L} {at : Setting}
         → JoinDoes (step.O p) (step.One p) (step.Two p) at x z y → (power : ℤ) (m begin : Input T)
         → Told pr level start at power m z → Opened pr level start (kept x) power m begin
         → Told pr level start at x.call.least begin y
-    join_told x z y (join_ends e) power m begin told o = join_ended p pr level start x z y e power m begin told o
+    join_told x z y (join_ends e) power m begin told o =
+        join_ended p pr level start x z y e power m begin told o
     join_told x _ y (join_goes {q = q} {m = n} {k = k} right v f tail) power m begin
         (es, r0, over, keeps, known) o =
         let closes = took_came at (λ a j. Closes g.folding (operator_kept x.operator) x.call.turn

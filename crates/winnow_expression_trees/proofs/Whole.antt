@@ -90,7 +90,8 @@ module _ {S W T L V F G H : Type 0} {reading : Reading T L} {at : Setting}
   agrees k j (inl (why, none)) r n all x (over, keeps) known =
       none r n all (complete (FirstStep g s0) (NextStep g s0) level r (here at w) n all over keeps)
   agrees k j (inr (refused, none)) r n all x (over, keeps) known =
-      none r n all x (complete (FirstStep g s0) (NextStep g s0) level r (here at w) n all over keeps) known
+      none r n all x (complete (FirstStep g s0) (NextStep g s0) level r (here at w) n all over
+      keeps) known
 
   causes : (k : Kind) (j : Input T) → FailsNow k j → FailsBy g s0 level (here at w) k j
   causes k j (inl (inl ended, none)) = inl ended
@@ -98,7 +99,8 @@ module _ {S W T L V F G H : Type 0} {reading : Reading T L} {at : Setting}
   causes k j (inr (refused, none)) = inr (inl refused)
 
   refuses : (k : Kind) (j : Input T) → FailsNow k j → (r : Tree V F G H) (n : Input T)
-      (all : Bool) → KeepsOver g s0 level (here at w) r n all → RejectedBy g s0 level (here at w) k j
+      (all : Bool) → KeepsOver g s0 level (here at w) r n all
+      → RejectedBy g s0 level (here at w) k j
   refuses k j (inl (why, none)) r n all (over, keeps) =
       absurd (none r n all
       (complete (FirstStep g s0) (NextStep g s0) level r (here at w) n all over keeps))
@@ -116,7 +118,8 @@ pub expression_exact : {S W T L V F G H : Type 0} {reading : Reading T L} {at : 
     → TreesDo (step.O p) (step.One p) (step.Two p) level at (s0.0, s0.1, level) w
     (outcome_of answer (t, left_of j))
     → IsTheOneTree (step.Parts p) alike s0 level (here at w) answer (t.0, t.1) j
-expression_exact {S} {W} {T} {V = V} {F} {G} {H} {at = at} p {alike} {s0} pr level w answer t j place
+expression_exact {S} {W} {T} {V = V} {F} {G} {H} {at =
+    at} p {alike} {s0} pr level w answer t j place
     did =
     subst (λ n. IsTheOneTree (step.Parts p) alike s0 level (here at w) answer (t.0, t.1) n)
     (sym place) (by answer (came p pr level w (outcome_of answer (t, left_of j)) did))
@@ -157,7 +160,8 @@ expression_exact {S} {W} {T} {V = V} {F} {G} {H} {at = at} p {alike} {s0} pr lev
       fails = λ l e other. subst (λ z. FailsBy (step.Parts p) s0 level (here at w) z
           (here at (left_of j))) (same_kind e)
           (causes p pr level w k (here at (left_of j)) (why other));
-      refuses = λ l e other u n b keeps. subst (λ z. RejectedBy (step.Parts p) s0 level (here at w) z
+      refuses = λ l e other u n b keeps. subst (λ z. RejectedBy (step.Parts p) s0 level (here at
+          w) z
           (here at (left_of j))) (same_kind e)
           (refuses p pr level w k (here at (left_of j)) (why other) u n b keeps);
     }

@@ -60,19 +60,22 @@ module _ {Q T V X Y Z : Type 0} (g : Operators T V X Y Z) (one other_one : Does 
     fine_as : {L O : Type 0} {y z : Outcome L O} → y ≡ z → Fine Allowed z → Fine Allowed y
     fine_as e fine = subst (λ x. Fine Allowed x) (sym e) fine
 
-    ends_as : {L O : Type 0} (of : L → Left T) {y z : Outcome L O} → y ≡ z → Ends Refused of z → Ends Refused of y
+    ends_as : {L O : Type 0} (of : L → Left T) {y z : Outcome L O} → y ≡ z → Ends Refused of z
+        → Ends Refused of y
     ends_as of e ends = subst (λ x. Ends Refused of x) (sym e) ends
 
     misused_fine : {L : Type 0} (O : Type 0) (l : L) → Fine {O = O} Allowed (misused_by at.form l)
     misused_fine O l = by at.form up.misuses
       where
-        by : (form : ErrorForm) → Allowed (assert_kind form) → Fine {O = O} Allowed (misused_by form l)
+        by : (form : ErrorForm) → Allowed (assert_kind form)
+            → Fine {O = O} Allowed (misused_by form l)
         by modal told = told
         by plain told = told
 
     -- ---- folds
 
-    checked_fine : (turn : ℕ) (u z : Outcome (Left T) V) → Fine Allowed u → checked g.units turn at u z
+    checked_fine : (turn : ℕ) (u z : Outcome (Left T) V) → Fine Allowed u
+        → checked g.units turn at u z
         → Fine Allowed z
     checked_fine turn (took v k) z fine (inl (still, e)) = fine_as e (misused_fine V k)
     checked_fine turn (took v k) z fine (inr (moved, e)) = fine_as e tt
@@ -107,7 +110,8 @@ module _ {Q T V X Y Z : Type 0} (g : Operators T V X Y Z) (one other_one : Does 
 
     -- ---- the ends of calls
 
-    fails_fine : {U : Type 0} (q : Q) (z : Outcome (Left T) V) (y : Outcome (End Q T) U) → Fine Allowed z
+    fails_fine : {U : Type 0} (q : Q) (z : Outcome (Left T) V) (y : Outcome (End Q T) U)
+        → Fine Allowed z
         → fails_as q z y → Fine Allowed y
     fails_fine q (took v k) y fine e = absurd e
     fails_fine q (backs k) y fine e = fine_as e fine
@@ -154,12 +158,14 @@ module _ {Q T V X Y Z : Type 0} (g : Operators T V X Y Z) (one other_one : Does 
 
     tail_ended : (call : Call) (v : V) (q : Q) (w : Left T) (y : Outcome (End Q T) (V × Bool))
         → Then same two (where_took instead (next_last g call v)) at q w y
-        → (TailDoes other other_one other_two at call v q w y × Fine Allowed y) ⊎ Ends Refused (λ e. e.1) y
+        → (TailDoes other other_one other_two at call v q w y × Fine Allowed y)
+        ⊎ Ends Refused (λ e. e.1) y
     tail_ended call v q w y (x, d, c) = let (r, fine) = up.nexts q w x d in by x r fine c
       where
         by : (x : Outcome (End Q T) (Option (Y ⊎ Z))) → other_two at q w x → Fine Allowed x
             → ComesOf {Q = Q} (where_took instead (next_last g call v)) at q w x y
-            → (TailDoes other other_one other_two at call v q w y × Fine Allowed y) ⊎ Ends Refused (λ e. e.1) y
+            → (TailDoes other other_one other_two at call v q w y × Fine Allowed y)
+            ⊎ Ends Refused (λ e. e.1) y
         by (took None e) r fine is = inl (tail_ends (took None e, r, is), fine_as is tt)
         by (took (Some (inl p)) e) r fine (inl (less, is)) =
             inl (tail_ends (took (Some (inl p)) e, r, inl (less, is)), fine_as is tt)
@@ -224,7 +230,8 @@ module _ {Q T V X Y Z : Type 0} (g : Operators T V X Y Z) (one other_one : Does 
     mutual
       tree_maps : (call : Call) (q : Q) (w : Left T) (y : Outcome (End Q T) (V × Bool))
           → TreeDoes g one two at call q w y
-          → (TreeDoes other other_one other_two at call q w y × Fine Allowed y) ⊎ Ends Refused (λ e. e.1) y
+          → (TreeDoes other other_one other_two at call q w y × Fine Allowed y)
+          ⊎ Ends Refused (λ e. e.1) y
       tree_maps call q w y (tree_operand {u = u} {m = m} v read tail) =
           elim (tail_maps call v u m y tail) [
             | inl (more, told) ↦ inl
@@ -249,7 +256,8 @@ module _ {Q T V X Y Z : Type 0} (g : Operators T V X Y Z) (one other_one : Does 
 
       tail_maps : (call : Call) (v : V) (q : Q) (w : Left T) (y : Outcome (End Q T) (V × Bool))
           → TailDoes g one two at call v q w y
-          → (TailDoes other other_one other_two at call v q w y × Fine Allowed y) ⊎ Ends Refused (λ e. e.1) y
+          → (TailDoes other other_one other_two at call v q w y × Fine Allowed y)
+          ⊎ Ends Refused (λ e. e.1) y
       tail_maps call v q w y (tail_postfix {u = u} {m = m} {k = k} p r read reaches f tail) =
           elim (turn_maps (g.units w.tokens) (λ z. g.behind at p m v z) (λ z. behind at p m v z)
           (up.behinds p m v) (took r k) f) [
@@ -279,7 +287,8 @@ module _ {Q T V X Y Z : Type 0} (g : Operators T V X Y Z) (one other_one : Does 
 
       join_maps : (x : Open V X Z) (z y : Outcome (End Q T) (V × Bool))
           → JoinDoes g one two at x z y → Fine Allowed z
-          → (JoinDoes other other_one other_two at x z y × Fine Allowed y) ⊎ Ends Refused (λ e. e.1) y
+          → (JoinDoes other other_one other_two at x z y × Fine Allowed y)
+          ⊎ Ends Refused (λ e. e.1) y
       join_maps x _ y (join_goes {q = q} {m = m} {k = k} v r f tail) told =
           elim (open_maps x.operator x.call.turn m v (took r k) f) [
             | inl (folds, known) ↦ elim (tail_maps x.call r q k y tail) [
@@ -292,7 +301,8 @@ module _ {Q T V X Y Z : Type 0} (g : Operators T V X Y Z) (one other_one : Does 
 
     pub trees_map : (level : ℤ) (q : Q) (w : Left T) (y : Outcome (End Q T) V)
         → TreesDo g one two level at q w y
-        → (TreesDo other other_one other_two level at q w y × Fine Allowed y) ⊎ Ends Refused (λ e. e.1) y
+        → (TreesDo other other_one other_two level at q w y × Fine Allowed y)
+        ⊎ Ends Refused (λ e. e.1) y
     trees_map level q w y (x, d, c) = elim (tree_maps (call_at level (g.units w.tokens)) q w x d) [
       | inl (more, told) ↦ inl ((x, more, c), by x c told)
       | inr ends ↦ inr (otherwise x c ends)

@@ -198,9 +198,9 @@ pub fn tree_is_unique<
 ///
 /// Clause `asserts` is about the calls in which neither a part nor a fold fails (`AssertingDo`):
 /// they fail only by an assert rule, with its kind, as clause `kind` states. Clause `failures` is
-/// about those in which no fold fails (`AcceptingDo`): a part may fail there too. Clause `ends` states that
-/// these fail with the kind and the rest of the result that ended the reading, or that an operator
-/// was read that consumes nothing.
+/// about those in which no fold fails (`AcceptingDo`): a part may fail there too. Clause `ends`
+/// states that these fail with the kind and the rest of the result that ended the reading, or that
+/// an operator was read that consumes nothing.
 ///
 /// Clause `within` states that the first calls are among the second ones, `run` that these are
 /// calls of the expression, and `either` that each other call of it ends with the result of a fold
@@ -308,5 +308,6 @@ pub fn assert_rules_leave_no_tree<
         → Ran I.reading (AcceptingDo I.reading P.does Pre.does Post.does Pix.does F.folds G.folds
         H.folds) E.form s i answer t j
         ⊎ ((k : Input I.Seen) × FoldAnswers (did_grammar I.reading E.form P.does Pre.does
-        Post.does Pix.does F.folds G.folds H.folds) answer k × (NotMemory answer → k ≡ j)) }
+        Post.does Pix.does F.folds G.folds H.folds) answer k
+        × (NotMemory answer → k ≡ j)) }
 {}

@@ -229,7 +229,8 @@ module _ {S W T L V F G H : Type 0} {reading : Reading T L} {at : Setting}
         let d = next_did p level s u i m (Ok (infix_read o)) here read same in
         let r = tree_did (call_at power (units m.left.tokens)) u m b w n d.1 inner in
         let z = join_did (opened O call v o (left_of i)) x b w n a t j r.1 joined is in
-        let P : ℤ → Type 0 = λ p. TreeDoes O One Two at (call_at p (units m.left.tokens)) (full u) (left_of m) (outcome_of b (full w, left_of n)) in
+        let P : ℤ → Type 0 = λ p. TreeDoes O One Two at (call_at p (units m.left.tokens)) (full
+        u) (left_of m) (outcome_of b (full w, left_of n)) in
         (tail_infix o d.0 (reaches, apart, moved) (subst P right r.0) z.0, z.1)
 
     join_did : (d : Open V (Prefix F) (Infix H)) (x : lib.Open V F H) (b : Answer (V × Bool))

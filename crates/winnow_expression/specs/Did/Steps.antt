@@ -89,7 +89,8 @@ took_came at R (Err cut, k, r, e) = absurd (cc)
 took_came at R (Err (incomplete need), k, r, e) = absurd (cc)
 took_came at R (Err memory, k, r, e) = absurd (cc)
 
-pub fails_is : {Q T U : Type 0} (V : Type 0) (q : Q) (k : Kind) (l : Left T) (y : Outcome (End Q T) U)
+pub fails_is : {Q T U : Type 0} (V : Type 0) (q : Q) (k : Kind) (l : Left T) (y : Outcome (End Q
+    T) U)
     → fails_as {V = V} q (outcome_of (Err k) l) y → y ≡ outcome_of (Err k) (q, l)
 fails_is V q backtrack l y e = e
 fails_is V q cut l y e = e
