@@ -36,7 +36,8 @@ module _ {S X L A O : Type 0} (width : ℕ) (one : S → List ℕ → A) (value 
 
   -- bytes that are missing
   pub integer_missing : (k : Kind)
-      → Ran reading (IntegerDoes width one reading) form s i (Err k) s j → Ran reading (IntegerDoes width value reading) form x i (Err k) x j
+      → Ran reading (IntegerDoes width one reading) form s i (Err k) s j
+      → Ran reading (IntegerDoes width value reading) form x i (Err k) x j
   integer_missing k (ends, cut, possible, inl (b, rest, is, e)) =
       absurd (fails_by e (fails_at {O = A} k (s, left_of j))).is
   integer_missing k (ends, cut, possible, inr (few, e)) =
