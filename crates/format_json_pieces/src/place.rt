@@ -130,8 +130,7 @@ fn end_of(bytes: &[u8]) -> Place
     }
 }
 
-/// Bytes are accepted by the walk of [`first_place`] if and only if some JSON text starts with
-/// them,
+/// Bytes are accepted by the walk of [`first_place`] if and only if some JSON text starts with them,
 /// at the same level. So each prefix that the walk accepts has a continuation that is a text, and
 /// bytes that it rejects have none.
 ///
