@@ -42,8 +42,8 @@ pub fn no_value_ends_elsewhere<A: Allocator>()
         → IsNext level (bytes ++ more) (Some v) other → other ≡ rest ++ more }
 {}
 
-/// What the scanner finds is a value: if it stops before `rest`, the bytes before are whitespace and
-/// a value by RFC 8259, which ends there.
+/// What the scanner finds is a value: if it stops before `rest`, the bytes before are whitespace,
+/// and then a value by RFC 8259, which ends there.
 ///
 /// An allocator makes the value, and its strings and lists have fewer than 2⁶³ bytes or items, as a
 /// slice has.
@@ -62,9 +62,9 @@ pub fn what_is_found_is_a_value<A: Allocator>()
         → (v : Value A) × IsNext level bytes (Some v) rest }
 {}
 
-/// Bytes are accepted by the scanner if and only if they are a prefix of bytes with a value at their
-/// start, perhaps after whitespace. So the bytes before an error can continue to a value, and with
-/// the byte there they cannot, regardless of what follows.
+/// The scanner accepts bytes if and only if they are a prefix of bytes with a value at their start,
+/// perhaps after whitespace. So the bytes before an error can continue to a value, and with the
+/// byte there they cannot, regardless of what follows.
 ///
 /// For the first, an allocator makes the value, as in [`what_is_found_is_a_value`]. Therefore the
 /// bytes are fewer than 2⁶¹.

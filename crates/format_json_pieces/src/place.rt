@@ -130,8 +130,8 @@ fn end_of(bytes: &[u8]) -> Place
     }
 }
 
-/// Bytes are accepted by the walk of [`first_place`] if and only if some JSON text starts with them,
-/// at the same level. So each prefix that the walk accepts has a continuation that is a text, and
+/// The walk of [`first_place`] accepts bytes if and only if some JSON text starts with them, at the
+/// same level. So each prefix that the walk accepts has a continuation that is a text, and
 /// bytes that it rejects have none.
 ///
 /// For the first, an allocator makes the value, and its strings and lists have fewer than 2⁶³ bytes
