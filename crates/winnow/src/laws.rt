@@ -17,12 +17,8 @@ pub use winnow_comb::laws::{
     not_resets_the_input, opt_resets_the_input_on_none, peek_resets_the_input,
 };
 pub use winnow_core::laws::{
-    bytes_with_the_output_and_the_rest_are_the_input, eof_is_not_stable,
-    taken_bytes_and_the_rest_are_the_input, taken_text_and_the_rest_are_the_input,
-    taken_tokens_and_the_rest_are_the_input, text_with_the_output_and_the_rest_are_the_input,
-    the_rest_is_a_suffix, the_slice_taken_and_the_rest_are_the_input,
+    eof_is_not_stable, the_slice_taken_and_the_rest_are_the_input,
     the_slice_with_the_output_and_the_rest_are_the_input,
-    tokens_with_the_output_and_the_rest_are_the_input,
 };
 pub use winnow_escapes::laws::{
     a_byte_control_is_settled, controls_of_one_token_are_settled,

@@ -17,7 +17,7 @@ use Rattle.parser_definitions.specs.Literal.{LiteralDoes}
 use Rattle.parser_definitions.specs.Outcome.{Setting, backs, outcome_of, setting_of}
 use Rattle.parser_definitions.specs.Then.{ComesOf}
 use Rattle.parser_definitions.specs.Inversion.Outcomes.{fails_at, fails_by, lacks_at}
-use Rattle.winnow_core.specs.Covers.{at_setting}
+use Rattle.winnow_core.specs.Settings.{at_setting}
 use Rattle.winnow_token.specs.Elsewhere.{literal_from}
 
 -- a literal that fails consumes nothing

@@ -15,7 +15,7 @@ use Rattle.parser_definitions.specs.Left.{End, Left, extend, left_of}
 use Rattle.parser_definitions.specs.Outcome.{Alike, Does, Outcome, grown, longer, on_cut}
 use Rattle.parser_definitions.specs.Outcome.{outcome_of}
 use Rattle.parser_definitions.specs.Outcome as outcomes
-use Rattle.winnow_core.specs.Covers.{ran_covers}
+use Rattle.winnow_core.specs.Settings.{outcome_at}
 use Rattle.winnow_core.specs.Longer.{IsFinal}
 use Rattle.winnow_core.specs.Runs.{Runs}
 
@@ -79,15 +79,15 @@ pub same_on_longer_by : {S T L O : Type 0} (reading : Reading T L)
 same_on_longer_by {S} {T} {L} {O} reading allowed {alike = alike} {does = does} law stays {form}
     has s i answer t j partial may ran =
     let x : Outcome (End S T) O = outcome_of answer (t, left_of j) in
-    let did = ((ran_covers reading does on_cut).covers s i answer t j
+    let did = outcome_at reading does on_cut s i answer t j
     (record { more = partial; possible = may })
-    (subst (λ f. Ran reading does f s i answer t j) has ran)).0 in
+    (subst (λ f. Ran reading does f s i answer t j) has ran) in
     record {
       same = λ final more may_follow flag other u k also.
           let y : Outcome (End S T) O = outcome_of other (u, left_of k) in
-          let did2 = ((ran_covers reading does (grown flag)).covers s (with_more i more flag) other
-          u k (record { more = refl; possible = may })
-          (subst (λ f. Ran reading does f s (with_more i more flag) other u k) has also)).0 in
+          let did2 = outcome_at reading does (grown flag) s (with_more i more flag) other u k
+          (record { more = refl; possible = may })
+          (subst (λ f. Ran reading does f s (with_more i more flag) other u k) has also) in
           subst (λ z. Alike alike z y) (longer_outcome more answer (t, left_of j))
           (law.one (grown flag) s (extend more (left_of i)) (longer more x) y
           (stays more flag s (left_of i) x may_follow

@@ -12,7 +12,7 @@ use Rattle.parser_definitions.specs.Left.{back, left_of}
 use Rattle.parser_definitions.specs.Outcome.{Does, backs, outcome_of, setting_of}
 use Rattle.parser_definitions.specs.Then.{ComesOf}
 use Rattle.parser_definitions.specs.Then.Steps.{with_first, with_second}
-use Rattle.winnow_core.specs.Covers.{handed, pair_is}
+use Rattle.winnow_core.specs.Results.{handed, pair_is}
 
 -- What others do from the start of a branch that backtracked.
 pub again : {S1 S2 T L O : Type 0} {reading : Reading T L} (one : Does S1 T O)

@@ -15,8 +15,9 @@ use Rattle.parser_definitions.specs.Moved.{in_state}
 use Rattle.parser_definitions.specs.Outcome.{Does, Outcome, Setting, backs, outcome_of}
 use Rattle.parser_definitions.specs.Outcome.{setting_of}
 use Rattle.parser_definitions.specs.Then.{ComesOf}
-use Rattle.winnow_core.specs.Covers.{gave, kept_ran}
-use Rattle.winnow_core.specs.Covers.Leaves.{misuse}
+use Rattle.winnow_core.specs.Results.{gave}
+use Rattle.winnow_core.specs.Settings.{kept_ran}
+use Rattle.winnow_core.specs.Leaves.{misuse}
 use Rattle.winnow_core.specs.Elements.{length-zero, rest_of, set_at}
 use Rattle.winnow_comb.proofs.AltLemmas.{again}
 

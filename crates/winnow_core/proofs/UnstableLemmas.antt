@@ -8,7 +8,7 @@ use Rattle.parser_definitions.specs.Does.{Ran}
 use Rattle.parser_definitions.specs.Eof.{EofDoes}
 use Rattle.parser_definitions.specs.Left.{left_of}
 use Rattle.stream_errors.specs.Form.{modal}
-use Rattle.winnow_core.specs.Covers.Leaves.{passed_of}
+use Rattle.winnow_core.specs.Leaves.{passed_of}
 use Rattle.winnow_core.specs.Longer.{EachSameOnLonger}
 
 -- an empty partial input

@@ -20,7 +20,8 @@ use Rattle.parser_definitions.specs.Then.Steps.{with_first, with_second}
 use Rattle.parser_definitions.specs.TryMap.{within}
 use Rattle.parser_definitions.specs.Tuples.{JoinedDo}
 use Rattle.winnow_core.specs.AndThen as inner
-use Rattle.winnow_core.specs.Covers.{at_setting, failed, handed, pair_is}
+use Rattle.winnow_core.specs.Results.{failed, handed, pair_is}
+use Rattle.winnow_core.specs.Settings.{at_setting}
 
 -- ---- an output is accepted, or rejected, and then the input is reset
 

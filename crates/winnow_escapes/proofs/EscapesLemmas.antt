@@ -14,7 +14,8 @@ use Rattle.parser_definitions.specs.Outcome.{Does, Outcome, Setting, lacks, lack
 use Rattle.parser_definitions.specs.Outcome.{misused_by, outcome_of, setting_of, took, wants}
 use Rattle.parser_definitions.specs.Then.{ComesOf}
 use Rattle.parser_definitions.specs.Then.Steps.{instead, takes}
-use Rattle.winnow_core.specs.Covers.{at_setting, failed}
+use Rattle.winnow_core.specs.Results.{failed}
+use Rattle.winnow_core.specs.Settings.{at_setting}
 use Rattle.winnow_core.specs.Runs.{Runs}
 
 pub nothing_left : {T L : Type 0} (reading : Reading T L) (xs : List T) (n : ℕ)

@@ -7,8 +7,8 @@ use Rattle.stream_errors.specs.Form.{Answer, ErrorForm}
 use Rattle.parser_definitions.specs.Does.{Ran}
 use Rattle.parser_definitions.specs.Left.{left_of}
 use Rattle.parser_definitions.specs.Outcome.{Does, Setting, outcome_of, setting_of}
-use Rattle.winnow_core.specs.Covers.{At, Covers, at_back, at_end, at_setting}
-use Rattle.winnow_core.specs.Runs.{LeaveEnds, Runs}
+use Rattle.winnow_core.specs.Settings.{At, at_back, at_end, at_setting, outcome_at}
+use Rattle.winnow_core.specs.Runs.{Runs}
 use Rattle.winnow_expression.specs.Ending.{Ending, ran_ending}
 pub mod Parts
 pub mod Steps
@@ -43,12 +43,11 @@ pub record Reads {S T L O : Type 0} (reading : Reading T L) (at : Setting) (star
       → Within reading at start i → run s i a t j
       → does at s (left_of i) (outcome_of a (t, left_of j)) × Within reading at start j
 
-pub covered_reads : {S T L O : Type 0} {reading : Reading T L} {at : Setting} {start : Input T}
-    {run : Runs S T O} {does : Does S T O} → Covers at run does → LeaveEnds reading run
-    → Reads reading at start run does
-covered_reads h ends = record {
+pub ran_reads : {S T L O : Type 0} (reading : Reading T L) (does : Does S T O) (at : Setting)
+    (start : Input T) → Reads reading at start (Ran reading does at.form) does
+ran_reads reading does at start = record {
   reads = λ s i a t j here r.
-      ((h.covers s i a t j here.setting r).0, within_end here (ends s i a t j r));
+      (outcome_at reading does at s i a t j here.setting r, within_end here r.0);
 }
 
 pub ending_reads : {S T L O : Type 0} (reading : Reading T L) (does : Does S T O) (at : Setting)

@@ -8,7 +8,7 @@ use Rattle.parser_definitions.specs.Left.{Left, left_of}
 use Rattle.parser_definitions.specs.Outcome.{Does, Outcome, Setting, asks, backs, cuts, outcome_of}
 use Rattle.parser_definitions.specs.Outcome.{took, wants}
 use Rattle.parser_definitions.specs.Then.Steps.{In}
-use Rattle.winnow_core.specs.Covers.{At}
+use Rattle.winnow_core.specs.Settings.{At}
 use Rattle.winnow_expression.specs.Folds.{DoesBinary, DoesUnary}
 use Rattle.winnow_expression.specs.Operators.{fold_of, left_power, neither_power, right_power}
 use Rattle.winnow_expression.specs.declared.combinator.operators.Infix.{Infix}

@@ -12,7 +12,7 @@ use Rattle.parser_definitions.specs.Outcome.{setting_of, took, wants}
 use Rattle.parser_definitions.specs.Places.{FirstDoes, NextDoes}
 use Rattle.parser_definitions.specs.Then.{ComesOf}
 use Rattle.parser_definitions.specs.Then.Steps.{In, hands_on}
-use Rattle.winnow_core.specs.Covers.{at_end}
+use Rattle.winnow_core.specs.Settings.{at_end}
 use Rattle.winnow_expression.specs.Definition.{Folded, operators}
 use Rattle.winnow_expression.specs.Did.{here, is_here}
 use Rattle.winnow_expression.specs.Ending.{Ending}

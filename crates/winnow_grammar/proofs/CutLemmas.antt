@@ -11,7 +11,7 @@ use Rattle.parser_definitions.specs.Does.{Lawful, Ran}
 use Rattle.parser_definitions.specs.Left.{End, extend, left_of}
 use Rattle.parser_definitions.specs.Outcome.{Does, IsFinal, longer, on_cut, outcome_of}
 use Rattle.parser_definitions.specs.Projects.{Agreement, Complete, Projects}
-use Rattle.winnow_core.specs.Covers.{ran_covers}
+use Rattle.winnow_core.specs.Settings.{outcome_at}
 use Rattle.winnow_core.specs.Exact.{agreement_of, reads_told}
 use Rattle.winnow_grammar.specs.Cut.{Asks, ReadsCut, ReadsOrAsks}
 
@@ -29,8 +29,8 @@ module _ {S T L O : Type 0} {following : Following T} (reading : Reading T L) {d
       ((p (record { form = modal; possible = true })).reads.agrees (extend more (left_of i))
       (longer more (outcome_of answer (t, left_of j)))
       (law.stays is more false s (left_of i) (outcome_of answer (t, left_of j)) final
-      ((ran_covers reading does on_cut).covers s i answer t j
-      (record { more = is_cut; possible = follows.possible }) ran).0)).is
+      (outcome_at reading does on_cut s i answer t j
+      (record { more = is_cut; possible = follows.possible }) ran))).is
 
   -- the errors of a call on partial input
   cut_fails : (i : Input T) (k : Kind) (t : S) (j : Input T) → i.status.cut ≡ true

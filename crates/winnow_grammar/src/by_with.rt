@@ -1,7 +1,7 @@
 //! Rules by functions with an argument.
 ghost use Rattle.std.specs.Prelude.{◌≡◌, ⊤};
 ghost use Rattle.parser_definitions.specs.Func.{ByDoes, beside};
-ghost use Rattle.winnow_core.specs.Covers.Functions.{func_lawful, func_terms};
+ghost use Rattle.winnow_core.specs.Functions.{func_lawful, func_terms};
 ghost use Rattle.winnow_grammar.specs.FuncCalls.{CalledAtPair};
 ghost use Rattle.winnow_grammar.specs.Rule.{CallsRead, CallsSpared, by_projects};
 

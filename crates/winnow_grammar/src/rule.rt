@@ -7,7 +7,7 @@ ghost use Rattle.winnow_grammar.specs.Rule.{CallsRead, CallsSpared, by_projects}
 ghost use Rattle.winnow_grammar.specs.RulePieces.{pieces_rule, pieces_run};
 ghost use Rattle.winnow_grammar.specs.RuleWith.{with_argument, with_rule, with_run};
 ghost use Rattle.parser_definitions.specs.Func.{ByDoes, beside};
-ghost use Rattle.winnow_core.specs.Covers.Functions.{func_lawful, func_terms};
+ghost use Rattle.winnow_core.specs.Functions.{func_lawful, func_terms};
 
 use crate::by_pieces::ByPieces;
 use crate::by_with::ByWith;

@@ -10,7 +10,7 @@ use Rattle.streams.specs.Stream.{Cuts}
 use Rattle.stream_errors.specs.Form.{ErrorForm}
 use Rattle.parser_definitions.specs.Does.{Ran}
 use Rattle.parser_definitions.specs.Left.{left_of}
-use Rattle.winnow_core.specs.Covers.Leaves.{passed_of}
+use Rattle.winnow_core.specs.Leaves.{passed_of}
 use Rattle.winnow_machines.specs.Word.{IsWord, WordDoes}
 
 module _ {X S : Type 0} (reading : Reading ℕ S) (counts : CountsBytes reading)

@@ -17,8 +17,8 @@ use Rattle.winnow_numbers.specs.Number.{NumberRuns}
 use Rattle.winnow_numbers.specs.Numeral.{DigitsRuns, LacksDigits, NoDigits, NoNumeral, NumeralRuns}
 use Rattle.winnow_numbers.specs.Numeral.{SignRuns, left_by}
 use Rattle.winnow_numbers.specs.Numeral.Inversion.{sign_status}
-use Rattle.winnow_core.specs.Covers.{gave, left_at}
-use Rattle.winnow_core.specs.Covers.Leaves.{passed_of, short}
+use Rattle.winnow_core.specs.Results.{gave, left_at}
+use Rattle.winnow_core.specs.Leaves.{passed_of, short}
 
 -- ---- decimal numbers
 

@@ -16,7 +16,8 @@ use Rattle.parser_definitions.specs.Outputs.{SomeDoes, made}
 use Rattle.parser_definitions.specs.Then.{Comes, ComesOf, Next, Then}
 use Rattle.parser_definitions.specs.Then.Steps.{In, asks_on, first, instead, takes, where_took}
 use Rattle.parser_definitions.specs.Then.Steps.{with_first}
-use Rattle.winnow_core.specs.Covers.{at_setting, handed}
+use Rattle.winnow_core.specs.Results.{handed}
+use Rattle.winnow_core.specs.Settings.{at_setting}
 use Rattle.winnow_recovery.specs.Recovery.{IsNotRecovered, IsRecovered}
 
 pub there : {T L : Type 0} (reading : Reading T L) (form : ErrorForm) (x i : Input T)

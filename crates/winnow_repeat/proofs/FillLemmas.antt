@@ -11,7 +11,7 @@ use Rattle.parser_definitions.specs.Left.{left_of}
 use Rattle.parser_definitions.specs.Loop.{continues, last_comes, returns}
 use Rattle.parser_definitions.specs.Outcome.{Does, outcome_of, setting_of, took}
 use Rattle.parser_definitions.specs.Then.Steps.{instead, with_first}
-use Rattle.winnow_core.specs.Covers.{failed}
+use Rattle.winnow_core.specs.Results.{failed}
 use Rattle.winnow_repeat.specs.Called.{there}
 use Rattle.winnow_repeat.specs.Fill.{Buffer, buffer_of}
 use Rattle.winnow_repeat.specs.Loops.{Reached, reached_last, reached_more, reached_none}

@@ -25,7 +25,7 @@ use Rattle.parser_definitions.specs.RepeatTill.{room_behind, till_next}
 use Rattle.parser_definitions.specs.Then.{ComesOf, Then}
 use Rattle.parser_definitions.specs.Then.Steps.{and_then, instead, same, where_took}
 use Rattle.parser_definitions.specs.Threes.{one_of, two_of, with_one, with_two}
-use Rattle.winnow_core.specs.Covers.{failed}
+use Rattle.winnow_core.specs.Results.{failed}
 use Rattle.winnow_repeat.specs.Called.{there}
 use Rattle.winnow_repeat.specs.Called.Parts.{IsPart, gathers_part, items_ran}
 use Rattle.winnow_repeat.specs.Turns.{misuse}

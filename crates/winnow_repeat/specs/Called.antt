@@ -17,7 +17,8 @@ use Rattle.parser_definitions.specs.Outcome.{Does, Outcome, outcome_of, setting_
 use Rattle.parser_definitions.specs.Repeat.{OneOrMore}
 use Rattle.parser_definitions.specs.RepeatTill.{Every}
 use Rattle.parser_definitions.specs.Then.Steps.{instead, takes}
-use Rattle.winnow_core.specs.Covers.{at_setting, failed}
+use Rattle.winnow_core.specs.Results.{failed}
+use Rattle.winnow_core.specs.Settings.{at_setting}
 use Rattle.winnow_repeat.specs.Turns.{LastTurn, ends_enough, ends_failed, ends_full}
 use Rattle.winnow_repeat.specs.Turns.{ends_rejected, ends_stuck, ends_wanting}
 pub mod Parts

@@ -4,7 +4,7 @@ use Rattle.std.proofs.Common.{refl, ap, ◌∙◌, inl, inr}
 use Rattle.streams.specs.Kind.{Kind, backtrack, cut, incomplete, memory}
 use Rattle.stream_errors.specs.Form.{Answer, ErrorForm, assert_kind, modal, plain}
 use Rattle.stream_sets.specs.Range.{Bounds, IsBelow}
-use Rattle.winnow_core.specs.Covers.{failed, gave}
+use Rattle.winnow_core.specs.Results.{failed, gave}
 use Rattle.parser_definitions.specs.Folding.{Folding}
 use Rattle.parser_definitions.specs.Items.{ItemsTurn, items_next}
 use Rattle.parser_definitions.specs.Left.{End, Left, back}

@@ -18,7 +18,7 @@ use Rattle.parser_definitions.specs.SeparatedFold.{folds_links}
 use Rattle.parser_definitions.specs.Then.{Then}
 use Rattle.parser_definitions.specs.Then.Steps.{and_then, instead, same, where_took}
 use Rattle.parser_definitions.specs.Threes.{one_of, turned_of, with_one, with_turned}
-use Rattle.winnow_core.specs.Covers.{failed}
+use Rattle.winnow_core.specs.Results.{failed}
 use Rattle.winnow_repeat.specs.Called.Parts.{IsPart, gathers_part, many_ran}
 use Rattle.winnow_repeat.specs.Called.{there}
 

@@ -10,7 +10,7 @@ use Rattle.parser_definitions.specs.Left.{End, Left, left_of}
 use Rattle.parser_definitions.specs.Outcome.{Does, Outcome, Setting, asks, backs, cuts, outcome_of}
 use Rattle.parser_definitions.specs.Outcome.{setting_of, took, wants}
 use Rattle.parser_definitions.specs.Then.Steps.{takes, with_first, with_second}
-use Rattle.winnow_core.specs.Covers.{failed}
+use Rattle.winnow_core.specs.Results.{failed}
 use Rattle.winnow_repeat.specs.Called.{there}
 use Rattle.winnow_separated.specs.Link.{LinkDoes}
 use Rattle.winnow_separated.specs.Separated.{OnlyElements}

@@ -20,7 +20,7 @@ use Rattle.parser_definitions.specs.Outcome.{wants}
 use Rattle.parser_definitions.specs.Then.{ComesOf, Next}
 use Rattle.parser_definitions.specs.Then.Steps.{asks_on, cuts_on, instead, takes_none, with_first}
 use Rattle.winnow_core.specs.Chain.{IsItem, Items}
-use Rattle.winnow_core.specs.Covers.{failed}
+use Rattle.winnow_core.specs.Results.{failed}
 use Rattle.winnow_core.specs.Elements.{rest_of, set_at}
 use Rattle.winnow_core.specs.Runs.{Runs}
 use Rattle.winnow_core.specs.Tells.{Tells}

@@ -21,8 +21,8 @@ use Rattle.parser_definitions.specs.Left.{left_of}
 use Rattle.parser_definitions.specs.Members.{IsEnded}
 use Rattle.parser_definitions.specs.Outcome.{setting_of}
 use Rattle.parser_definitions.specs.TakeWhile.{IsPrefix, TakeWhileDoes}
-use Rattle.winnow_core.specs.Covers.{gave}
-use Rattle.winnow_core.specs.Covers.Leaves.{passed_of}
+use Rattle.winnow_core.specs.Results.{gave}
+use Rattle.winnow_core.specs.Leaves.{passed_of}
 use Rattle.winnow_token.specs.Members.{CountsMembers, FindsMembers}
 
 -- The tokens start with `count` members, followed by the tokens in `left`, each with its offset.

@@ -12,7 +12,7 @@ use Rattle.parser_definitions.specs.Left.{left_of}
 use Rattle.parser_definitions.specs.MapErr.{CompleteErrDoes}
 use Rattle.parser_definitions.specs.Outcome.{asks, took}
 use Rattle.parser_definitions.specs.Rest.{RestDoes}
-use Rattle.winnow_core.specs.Covers.Leaves.{passed_of}
+use Rattle.winnow_core.specs.Leaves.{passed_of}
 use Rattle.winnow_core.specs.Longer.{EachSameOnLonger}
 use Rattle.winnow_core.proofs.UnstableLemmas.{cut_end, takes_none}
 

@@ -17,8 +17,8 @@ use Rattle.grammars.specs.Grammar.Searches.Unique.{match_before}
 use Rattle.parser_definitions.specs.Does.{Ran}
 use Rattle.parser_definitions.specs.Left.{left_of}
 use Rattle.parser_definitions.specs.TakeUntil.{TakeUntilDoes}
-use Rattle.winnow_core.specs.Covers.{gave}
-use Rattle.winnow_core.specs.Covers.Leaves.{passed_of, short}
+use Rattle.winnow_core.specs.Results.{gave}
+use Rattle.winnow_core.specs.Leaves.{passed_of, short}
 use Rattle.winnow_core.specs.Short.{ShortKind}
 use Rattle.winnow_token.specs.Before.{SaysAtLeast, SaysAtMost}
 

@@ -23,7 +23,7 @@ use Rattle.parser_definitions.specs.BitsOfBytes.{bits_left, inside, need_in_byte
 use Rattle.parser_definitions.specs.Does.{Ran}
 use Rattle.parser_definitions.specs.Left.{End, Left, left_of}
 use Rattle.parser_definitions.specs.Outcome.{Does, Outcome, outcome_of, setting_of, took}
-use Rattle.winnow_core.specs.Covers.{gave}
+use Rattle.winnow_core.specs.Results.{gave}
 use Rattle.winnow_bits.specs.BytesOfBits.{WholeBytesOf}
 use Rattle.winnow_bits.specs.Needs.{with_need}
 

@@ -2,7 +2,7 @@
 ghost use Rattle.std.specs.Fn.{CalledAtMut};
 ghost use Rattle.parser_definitions.specs.Func.{FuncDoes, FuncWithDoes, beside};
 ghost use Rattle.parser_definitions.specs.Terms.{no_claim, nothing_claimed};
-ghost use Rattle.winnow_core.specs.Covers.Functions.{func_lawful, func_terms};
+ghost use Rattle.winnow_core.specs.Functions.{func_lawful, func_terms};
 ghost use Rattle.winnow_core.specs.Func.{CalledWithMut, LeavesEndsFrom};
 
 use crate::parser::Parser;
@@ -18,7 +18,7 @@ use streams::stream::Stream;
 ///
 /// Its definition allows the outcomes of the calls. The premise is that state and input determine
 /// each call, and that none on complete input is incomplete. It is stable if longer inputs keep
-/// final results. Both are in `specs/Covers/Functions.antt`.
+/// final results. Both are in `specs/Functions.antt`.
 ///
 /// A plain function needs one clause, over bytes, or over any stream if it is used at one:
 ///

@@ -13,7 +13,7 @@ use Rattle.parser_definitions.specs.Outcome.{wants}
 use Rattle.parser_definitions.specs.Places.{FirstDoes, NextDoes, or_infix, or_nothing, or_prefix}
 use Rattle.parser_definitions.specs.Then.{ComesOf}
 use Rattle.parser_definitions.specs.Then.Steps.{takes, with_first, with_second}
-use Rattle.winnow_core.specs.Covers.{failed, gave, left_at, pair_is}
+use Rattle.winnow_core.specs.Results.{failed, gave, left_at, pair_is}
 use Rattle.winnow_core.specs.Runs.{Runs}
 use Rattle.winnow_expression.specs.Covers.{Reads, Within, ending_reads, reads_ran, within_back}
 use Rattle.winnow_expression.specs.Covers.{within_same}

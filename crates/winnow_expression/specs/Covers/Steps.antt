@@ -14,7 +14,7 @@ use Rattle.parser_definitions.specs.Outcome.{Does, Setting, misused, misused_by}
 use Rattle.parser_definitions.specs.Outcome.{outcome_of, took}
 use Rattle.parser_definitions.specs.Then.{Comes, ComesOf, Then}
 use Rattle.parser_definitions.specs.Then.Steps.{In, hands_on, instead, same, where_took}
-use Rattle.winnow_core.specs.Covers.{gave, left_at}
+use Rattle.winnow_core.specs.Results.{gave, left_at}
 use Rattle.winnow_core.specs.Runs.{Runs}
 use Rattle.winnow_expression.specs.Covers.{Reads, Within, within_back, within_end, within_same}
 use Rattle.winnow_expression.specs.Definition.{OutputAs, first_side, made_as, next_side, operators}

@@ -17,10 +17,10 @@ use Rattle.parser_definitions.specs.Outcome.{Does, Outcome, Setting}
 use Rattle.parser_definitions.specs.Outcome.{outcome_of, setting_of, took}
 use Rattle.parser_definitions.specs.Then.{ComesOf}
 use Rattle.parser_definitions.specs.Then.Steps.{same}
-use Rattle.winnow_core.specs.Covers.{gave, ran_covers, ran_ends}
+use Rattle.winnow_core.specs.Results.{gave}
 use Rattle.winnow_core.specs.Runs.{Runs}
 use Rattle.winnow_expression.specs.Covers.Steps as step
-use Rattle.winnow_expression.specs.Covers.{Reads, Within, covered_reads, reads_ran, within_end}
+use Rattle.winnow_expression.specs.Covers.{Reads, Within, ran_reads, reads_ran, within_end}
 use Rattle.winnow_expression.specs.Covers.{within_same}
 use Rattle.winnow_expression.specs.Covers.Steps.{PartsCovered, checked_error}
 use Rattle.winnow_expression.specs.Covers.Steps.{first_did, misuse, next_did, tail_ended}
@@ -316,6 +316,5 @@ trees_ran reading form {before} {behind} {between} one two folds level given s i
     Ran reading (LeveledDo (operators reading.units before behind between) one two) form
     (s.0, s.1, l) i a (t.0, t.1, l) j in
     subst P same (leveled_ran reading form one two folds (s.0, s.1, given) i
-    (covered_reads (ran_covers reading first at) (ran_ends reading first form))
-    (covered_reads (ran_covers reading next at) (ran_ends reading next form)) a
+    (ran_reads reading first at i) (ran_reads reading next at i) a
     (t.0, t.1, given) j (run, refl))

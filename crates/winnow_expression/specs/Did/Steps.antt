@@ -12,7 +12,7 @@ use Rattle.parser_definitions.specs.Outcome.{Does, Outcome, Setting}
 use Rattle.parser_definitions.specs.Outcome.{outcome_of, took}
 use Rattle.parser_definitions.specs.Places.{FirstDoes, NextDoes}
 use Rattle.parser_definitions.specs.Then.Steps.{In}
-use Rattle.winnow_core.specs.Covers.{at_end}
+use Rattle.winnow_core.specs.Settings.{at_end}
 use Rattle.winnow_core.specs.Runs.{Runs}
 use Rattle.winnow_expression.specs.Covers.Steps.{misuse}
 use Rattle.winnow_expression.specs.Covers.Trees.{operator_kept}

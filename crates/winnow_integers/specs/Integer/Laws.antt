@@ -11,7 +11,7 @@ use Rattle.parser_definitions.specs.Inversion.Outcomes.{fails_at, fails_by, lack
 use Rattle.parser_definitions.specs.Inversion.Outcomes.{same_took}
 use Rattle.parser_definitions.specs.Left.{left_of}
 use Rattle.parser_definitions.specs.Outcome.{outcome_of, took}
-use Rattle.winnow_core.specs.Covers.Leaves.{short}
+use Rattle.winnow_core.specs.Leaves.{short}
 
 module _ {S X L A O : Type 0} (width : ℕ) (one : S → List ℕ → A) (value : X → List ℕ → O)
     (reading : Reading ℕ L) (form : ErrorForm) (s : S) (x : X) (i j : Input ℕ) where

@@ -2,8 +2,8 @@ use Rattle.std.specs.Prelude.{⊤}
 use Rattle.std.proofs.Common.{Err, None, ap, inl, inr, refl, ◌∙◌}
 use Rattle.parser_definitions.specs.Left.{End, left_of}
 use Rattle.parser_definitions.specs.Outcome.{lacks_by}
-use Rattle.winnow_core.specs.Covers.{gave}
-use Rattle.winnow_core.specs.Covers.Leaves.{passed_of, short}
+use Rattle.winnow_core.specs.Results.{gave}
+use Rattle.winnow_core.specs.Leaves.{passed_of, short}
 use Rattle.winnow_ascii.proofs.LineEndLemmas.{not_first}
 use Rattle.winnow_ascii.proofs.ascii.line_ends.till_line_ending.Goals as goal
 

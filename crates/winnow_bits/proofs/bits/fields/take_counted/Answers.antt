@@ -3,7 +3,7 @@ use Rattle.streams.specs.Input.{passes_end}
 use Rattle.stream_bits.specs.BitInput.{bits_input}
 use Rattle.stream_bits.specs.BitReading.{bits_reading}
 use Rattle.parser_definitions.specs.Left.{left_of}
-use Rattle.winnow_core.specs.Covers.Leaves.{passed_of}
+use Rattle.winnow_core.specs.Leaves.{passed_of}
 use Rattle.winnow_bits.proofs.InPartsLemmas.{reads_none}
 use Rattle.winnow_bits.proofs.bits.fields.take_counted.Goals as goal
 

@@ -6,7 +6,7 @@ use Rattle.parser_definitions.specs.Does.{Ran}
 use Rattle.parser_definitions.specs.Left.{left_of}
 use Rattle.parser_definitions.specs.MapErr.{CompleteErrDoes}
 use Rattle.parser_definitions.specs.Outcome.{lacks, setting_of}
-use Rattle.winnow_core.specs.Covers.Leaves.{passed_of, short}
+use Rattle.winnow_core.specs.Leaves.{passed_of, short}
 use Rattle.winnow_binary.proofs.LengthAndThenLemmas.{inside, only_first_is}
 use Rattle.winnow_binary.proofs.binary.impls.length_and_then.parse_taken.Goals as goal
 

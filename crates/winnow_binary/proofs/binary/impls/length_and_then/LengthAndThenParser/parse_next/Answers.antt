@@ -6,7 +6,8 @@ use Rattle.parser_definitions.specs.Left.{left_of}
 use Rattle.parser_definitions.specs.Length.{TakenDo}
 use Rattle.parser_definitions.specs.Outcome.{outcome_of, setting_of, took}
 use Rattle.parser_definitions.specs.Then.Steps.{with_second}
-use Rattle.winnow_core.specs.Covers.{handed, ran_covers}
+use Rattle.winnow_core.specs.Results.{handed}
+use Rattle.winnow_core.specs.Settings.{outcome_at}
 use Rattle.winnow_binary.proofs.binary.impls.length_and_then.LengthAndThenParser.parse_next.Goals as
     goal
 
@@ -26,7 +27,7 @@ returns-clause-ran g c =
     let end = is_end_of_trans c.parse_taken.ensures.ran.0 first.0 in
     let At : _ → Type 0 =
     λ n. Ran reading (each n) form (g.G.Parser.state c.args.self.now.parser) m answer u j in
-    let others = (ran_covers reading (each (g.N.ToUsize.number n)) at).covers _ m answer u j
+    let others = outcome_at reading (each (g.N.ToUsize.number n)) at _ m answer u j
     (record { more = first.1; possible = first.2 })
     (subst At c.to_usize.ensures c.parse_taken.ensures.ran) in (
       end,
@@ -37,7 +38,7 @@ returns-clause-ran g c =
         first.3,
         (
           outcome_of answer (u, left_of j),
-          others.0,
+          others,
           handed with_second at (t, g.G.Parser.state c.args.self.now.parser) (left_of m) answer u
               (left_of j),
         ),

@@ -5,7 +5,7 @@ use Rattle.parser_definitions.specs.Does.{Ran}
 use Rattle.parser_definitions.specs.Left.{left_of}
 use Rattle.parser_definitions.specs.Outcome.{setting_of, took}
 use Rattle.parser_definitions.specs.Take.{TakeDoes}
-use Rattle.winnow_core.specs.Covers.{ran_covers}
+use Rattle.winnow_core.specs.Settings.{outcome_at}
 use Rattle.winnow_binary.proofs.LengthTakeLemmas.{take_from}
 use Rattle.winnow_binary.proofs.binary.impls.length_take.LengthTakeParserSlice.parse_next.Goals as
     goal
@@ -25,7 +25,7 @@ returns-clause-ran g c =
     let j = g.I.Stream.view c.parse_next-2.new.input in
     let end = is_end_of_trans c.parse_next-2.ensures.ran.0 first.0 in
     let At : _ → Type 0 = λ n. Ran reading (TakeDoes reading counts (λ x. x)) form n m answer k j in
-    let others = (ran_covers reading (TakeDoes reading counts (λ x. x)) at).covers _ m answer k j
+    let others = outcome_at reading (TakeDoes reading counts (λ x. x)) at _ m answer k j
     (record { more = first.1; possible = first.2 })
     (subst At c.take.ensures c.parse_next-2.ensures.ran) in (
       end,
@@ -35,6 +35,6 @@ returns-clause-ran g c =
         took n (t, left_of m),
         first.3,
         take_from reading counts t (g.N.ToUsize.number n) at (left_of m) answer k (left_of j)
-            others.0,
+            others,
       ),
     )

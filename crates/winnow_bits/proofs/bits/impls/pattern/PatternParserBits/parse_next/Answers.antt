@@ -8,7 +8,7 @@ use Rattle.parser_definitions.specs.Does.{Ran}
 use Rattle.parser_definitions.specs.Left.{left_of}
 use Rattle.parser_definitions.specs.Outcome.{setting_of}
 use Rattle.parser_definitions.specs.Then.Steps.{with_second}
-use Rattle.winnow_core.specs.Covers.{failed, gave}
+use Rattle.winnow_core.specs.Results.{failed, gave}
 use Rattle.winnow_bits.proofs.bits.impls.pattern.PatternParserBits.parse_next.Goals as goal
 
 pub returns-then-eq-clause-ran : goal.returns-then-eq-clause-ran

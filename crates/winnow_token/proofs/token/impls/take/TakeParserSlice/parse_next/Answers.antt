@@ -1,7 +1,7 @@
 use Rattle.std.proofs.Common.{take, drop, sym, refl, inl}
 use Rattle.std.proofs.lemmas.List.{take-append-drop, length-take-le}
 use Rattle.streams.specs.Input.{takes_end}
-use Rattle.winnow_core.specs.Covers.Leaves.{passed_of}
+use Rattle.winnow_core.specs.Leaves.{passed_of}
 use Rattle.winnow_token.proofs.token.impls.take.TakeParserSlice.parse_next.Goals as goal
 
 pub next_slice-requires : goal.next_slice-requires

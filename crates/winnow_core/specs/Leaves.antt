@@ -10,7 +10,7 @@ use Rattle.winnow_core.specs.Short.{ShortKind}
 use Rattle.parser_definitions.specs.Left.{left_of}
 use Rattle.parser_definitions.specs.Outcome.{Outcome, lacks, misused, outcome_of, setting_of}
 use Rattle.parser_definitions.specs.Passed.{Passed}
-use Rattle.winnow_core.specs.Covers.{gave}
+use Rattle.winnow_core.specs.Results.{gave}
 
 pub passed_of : {T L : Type 0} {reading : Reading T L} {front : List T} {i j : Input T}
     → Passes reading front i j
