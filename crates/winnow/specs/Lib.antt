@@ -135,7 +135,7 @@ pub use Rattle.parser_definitions.specs.Fold as FoldDefinition
 pub use Rattle.parser_definitions.specs.Folding
 pub use Rattle.parser_definitions.specs.Func as FuncDefinition
 pub use Rattle.parser_definitions.specs.Held
-pub use Rattle.parser_definitions.specs.HexUint as HexUintDefinition
+pub use Rattle.parser_definitions.specs.HexUint
 pub use Rattle.parser_definitions.specs.Integer as IntegerDefinition
 pub use Rattle.parser_definitions.specs.IntegerGrammar
 pub use Rattle.parser_definitions.specs.Inversion
@@ -151,7 +151,7 @@ pub use Rattle.parser_definitions.specs.Map
 pub use Rattle.parser_definitions.specs.MapErr
 pub use Rattle.parser_definitions.specs.Members as MembersDefinition
 pub use Rattle.parser_definitions.specs.Moved
-pub use Rattle.parser_definitions.specs.Number as NumberDefinition
+pub use Rattle.parser_definitions.specs.Number
 pub use Rattle.parser_definitions.specs.NumberGrammar
 pub use Rattle.parser_definitions.specs.Numeral as NumeralDefinition
 pub use Rattle.parser_definitions.specs.OneOf as OneOfDefinition
@@ -230,12 +230,8 @@ pub use Rattle.winnow_ascii.specs.Crlf
 pub use Rattle.winnow_ascii.specs.LineEnding
 pub use Rattle.winnow_ascii.specs.TillLineEnding
 -- The parsers of numbers as text, as ASCII digits.
-pub use Rattle.winnow_numbers.specs.DecInt
-pub use Rattle.winnow_numbers.specs.DecUint
 pub use Rattle.winnow_numbers.specs.Decimal
 pub use Rattle.winnow_numbers.specs.DecimalText
-pub use Rattle.winnow_numbers.specs.HexUint
-pub use Rattle.winnow_numbers.specs.Number
 pub use Rattle.winnow_numbers.specs.Numeral
 -- Combinators for choices, options and sequences.
 pub use Rattle.winnow_comb.specs.Alt

@@ -1,5 +1,5 @@
 -- The numbers of numerals, digit by digit.
-use Rattle.std.proofs.Common.{◌≡◌, ◌∙◌, ◌+◌, ◌*◌, ◌-◌, ◌++◌, ◌∷◌, ℕ, Bool, List, [], true}
+use Rattle.std.proofs.Common.{◌≡◌, ◌∙◌, ◌+◌, ◌*◌, ◌-◌, ◌++◌, ◌∷◌, ℕ, Bool, List, []}
 use Rattle.std.proofs.Common.{false}
 use Rattle.std.proofs.Common.{◌<◌, ap, arith, inl, inr, refl, subst, sym}
 use Rattle.std.proofs.lemmas.Bool.Decides.{nat_tests}
@@ -9,12 +9,12 @@ use Rattle.std.specs.Str.Parse.{digits_value, digits_value_after}
 use Rattle.stream_sets.specs.AsChar.{IsDecDigit}
 use Rattle.streams.specs.Input.{Input, Passes, Remaining, back_at}
 use Rattle.streams.specs.Reading.{Reading}
-use Rattle.parser_definitions.specs.Digits.{AreCharacters, NoneFirst, characters_two, value_in}
+use Rattle.parser_definitions.specs.Digits.{AreCharacters, NoneFirst, characters_two}
 use Rattle.parser_definitions.specs.Digits.{value_is}
 use Rattle.parser_definitions.specs.Numeral.{IsLeadingDigit}
-use Rattle.winnow_numbers.proofs.NumeralLemmas.{back_same}
-use Rattle.winnow_numbers.specs.Numeral.{DigitsRuns}
-use Rattle.winnow_numbers.specs.Numeral.Inversion.{passes_two}
+use Rattle.winnow_core.specs.Covers.Leaves.{passed_of}
+use Rattle.winnow_numbers.proofs.LeftLemmas.{back_to, passes_two}
+use Rattle.winnow_numbers.specs.Numeral.{PassesDigits}
 
 after_more : (n : ℕ) (ds : List ℕ) (d : ℕ) → digits_value_after 10 n (ds ++ d ∷ [])
     ≡ digits_value_after 10 n ds * 10 + digit_value d
@@ -78,16 +78,10 @@ module _ {K T S : Type 0} (seen : K → T) (code : K → ℕ) (reading : Reading
             ∙ sym (after_more 0 all (code x));
       }
 
-  -- The digits of a numeral were passed, and n is their number.
-  abbrev pub Passed : Input T → Input T → ℕ → Type 0
-  Passed i j n =
-      (digits : List ℕ) × DigitsRuns seen code reading true i digits j
-      × (n ≡ value_in 10 digits)
-
   -- no more of them follow
   pub begun_all : (i j : Input T) (n : ℕ) → DigitsPassed seen code reading i j n
       → NoneFirst seen code IsDecDigit j.left.tokens
-      → (j.left.tokens ≡ [] → j.status.cut ≡ false) → Passed i j n
+      → (j.left.tokens ≡ [] → j.status.cut ≡ false) → PassesDigits seen code reading i j n
   begun_all i j n begun none whole =
       let all = begun.first ∷ begun.others in (
         all,
@@ -98,28 +92,28 @@ module _ {K T S : Type 0} (seen : K → T) (code : K → ℕ) (reading : Reading
           refl,
           begun.leads,
           begun.are,
-          begun.passes,
+          passed_of begun.passes,
           begun.characters,
           none,
-          whole,
+          λ e. ap (λ x. x.cut) (sym begun.passes.status) ∙ whole e,
         ),
         begun.value ∙ value_is 10 all,
       )
 
   pub begun_ended : (i j k : Input T) (n : ℕ) (cut : Bool) → DigitsPassed seen code reading i j n
-      → j.left.tokens ≡ [] → k ≡ j → cut ≡ k.status.cut → cut ≡ false → Passed i k n
+      → j.left.tokens ≡ [] → k ≡ j → cut ≡ k.status.cut → cut ≡ false
+      → PassesDigits seen code reading i k n
   begun_ended i j k n cut begun none same status whole =
-      let P : Input T → Type 0 = λ x. Passed i x n in
+      let P : Input T → Type 0 = λ x. PassesDigits seen code reading i x n in
       subst P (sym same) (begun_all i j n begun (inl none)
       (λ e. ap (λ x. x.status.cut) (sym same) ∙ sym status ∙ whole))
 
   pub begun_stopped : (i j k m : Input T) (n : ℕ) (x : K) (c : ℕ) (p : Remaining T)
       → DigitsPassed seen code reading i j n → Passes reading (seen x ∷ []) j k → c ≡ code x
-      → (IsDecDigit c → ⊥) → p ≡ j.left → m ≡ back_at p k → Passed i m n
+      → (IsDecDigit c → ⊥) → p ≡ j.left → m ≡ back_at p k → PassesDigits seen code reading i m n
   begun_stopped i j k m n x c p begun passes e other at back =
-      let same : m ≡ j = back ∙ ap (λ y. back_at y k) at ∙ back_same j k passes.status in
-      let P : Input T → Type 0 = λ y. Passed i y n in
-      subst P (sym same) (begun_all i j n begun
+      let P : Input T → Type 0 = λ y. PassesDigits seen code reading i y n in
+      subst P (sym (back_to j k m p at passes.status back)) (begun_all i j n begun
       (inr (
         seen x,
         k.left.tokens,

@@ -11,7 +11,12 @@ use Rattle.streams.specs.Reading.{Reading}
 use Rattle.streams.specs.Stream.{Cuts, IsBoundary}
 use Rattle.parser_definitions.specs.Digits.{AreCharacters, NoneFirst, value_in}
 use Rattle.winnow_numbers.specs.Lanes.{StartsWithNumeral}
-use Rattle.winnow_numbers.specs.Numeral.{DigitsRuns}
+use Rattle.parser_definitions.specs.Left.{left_of}
+use Rattle.parser_definitions.specs.Numeral.{HasDigits}
+use Rattle.parser_definitions.specs.Outcome.{setting_of}
+use Rattle.stream_errors.specs.Form.{plain}
+use Rattle.winnow_core.specs.Covers.Leaves.{passed_of}
+use Rattle.winnow_numbers.specs.Numeral.{PassesDigits}
 
 -- the digits of a numeral are digits
 digits_are : (bytes digits rest : List ℕ) → StartsWithNumeral bytes digits rest
@@ -157,12 +162,12 @@ module _ {K T S : Type 0} (seen : K → T) (code : K → ℕ) (reading : Reading
 
   ran : (i j : Input T) (bytes digits rest : List ℕ) → StartsWithNumeral bytes digits rest
       → (s : Spelled i.left.tokens digits rest) → Passes reading s.front i j
-      → DigitsRuns seen code reading true i digits j
+      → HasDigits seen code reading true (setting_of plain i) (left_of i) digits (left_of j)
   ran i j bytes digits rest (e, inl zero) s passes =
       let P : List ℕ → Type 0 = λ l. AreCharacters seen code s.front l in
       let one = lone s.front (subst P zero s.characters) in
       let Q : List T → Type 0 = λ l. Passes reading l i j in
-      inl (one.0, refl, one.1, subst Q one.2 passes, zero)
+      inl (one.0, refl, one.1, passed_of (subst Q one.2 passes), zero)
   ran i j bytes digits rest
       (e, inr (first, others, last, more, are, leads, all, behind, ends)) s passes =
       let left : s.behind ≡ j.left.tokens =
@@ -176,7 +181,7 @@ module _ {K T S : Type 0} (seen : K → T) (code : K → ℕ) (reading : Reading
         are,
         leads,
         all,
-        passes,
+        passed_of passes,
         s.characters,
         stop.0,
         λ none. absurd (stop.1 none),
@@ -185,8 +190,7 @@ module _ {K T S : Type 0} (seen : K → T) (code : K → ℕ) (reading : Reading
   -- and is the digits of the numeral
   pub numeral_ran : (i a j : Input T) (slice : S) (count number : ℕ) → a ≡ i
       → FoundIn i count number → Cuts reading count a slice j
-      → (digits : List ℕ) × DigitsRuns seen code reading true i digits j
-      × (number ≡ value_in 10 digits)
+      → PassesDigits seen code reading i j number
   numeral_ran i a j slice count number same (digits, rest, begins, long, is) cuts =
       let s = numeral_spelled i.left.tokens digits rest begins in (
         digits,

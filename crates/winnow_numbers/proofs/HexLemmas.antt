@@ -16,8 +16,7 @@ use Rattle.std.specs.List.{All, AllByRecursion}
 use Rattle.std.specs.Prelude.{IsTrue, ◌↔◌, max, ◌-◌}
 use Rattle.std.specs.Str.Parse.{AllDigits, digits_value}
 use Rattle.streams.specs.Equal.{true_is_false}
-use Rattle.streams.specs.Input.{Input}
-use Rattle.streams.specs.Input.{Takes}
+use Rattle.streams.specs.Input.{Input, Takes, is_end_of_refl, takes_end}
 use Rattle.streams.specs.Kind.{Kind, backtrack}
 use Rattle.streams.specs.Reading.{Reading, units-nil, units-zero}
 use Rattle.streams.specs.Stream.{AnswersSeen}
@@ -30,14 +29,17 @@ use Rattle.parser_definitions.specs.Digits.{value_is}
 use Rattle.parser_definitions.specs.Does.{Ran}
 use Rattle.parser_definitions.specs.Inversion.Outcomes.{fails_at, fails_by, lacks_at, lacks_none}
 use Rattle.parser_definitions.specs.Inversion.Outcomes.{same_took}
+use Rattle.parser_definitions.specs.HexUint.{HexUintDoes}
 use Rattle.parser_definitions.specs.Left.{Left, left_of}
 use Rattle.parser_definitions.specs.Members.{IsEnded}
+use Rattle.parser_definitions.specs.Outcome.{backs, outcome_of}
 use Rattle.parser_definitions.specs.Passed.{Passed}
 use Rattle.parser_definitions.specs.TakeWhile.{TakeWhileDoes}
 use Rattle.stream_sets.specs.Longest.{IsLongest}
-use Rattle.winnow_numbers.specs.HexUint.{HexUintRuns}
-use Rattle.winnow_numbers.proofs.DecimalRuns.{spelled}
-use Rattle.winnow_numbers.proofs.LeftLemmas.{passes_from, same_input}
+use Rattle.winnow_core.specs.Covers.{gave}
+use Rattle.winnow_core.specs.Covers.Leaves.{passed_of, short}
+use Rattle.winnow_numbers.proofs.LeftLemmas.{fails_back, passes_from}
+use Rattle.winnow_numbers.proofs.NumberLemmas.{spelled}
 use Rattle.winnow_numbers.proofs.NumeralLemmas.{numbers_of}
 
 hex_low : (c : ℕ) → IsHexDigit c → digit_value c < 16
@@ -230,9 +232,14 @@ module _ {K T S : Type 0} (seen : K → T) (code : K → ℕ) (reading : Reading
       )
   none_front (t ∷ ts) rest tokens cut longest few ended = absurd (omega arith)
 
+  -- a call of the parser
+  abbrev pub HexRan : {N : Type 0} → (N → ℕ) → ErrorForm → Input T → Answer N → Input T → Type 0
+  HexRan number form i answer j =
+      Ran reading (HexUintDoes number most seen code reading) form (tt {0}) i answer (tt {0}) j
+
   pub hex_missing : {N X : Type 0} (number : N → ℕ) (form : ErrorForm) (x : X) (i : Input T)
       (k : Kind) (y : X) (j : Input T) → DigitsRan form x i (Err k) y j
-      → HexUintRuns number most seen code reading form i (Err k) j
+      → HexRan number form i (Err k) j
   hex_missing number form x i k y j (end, cut, possible, inl ((greatest, is, below), e)) =
       absurd (let bound : most ≡ greatest = cc in omega arith)
   hex_missing number form x i k y j
@@ -240,65 +247,80 @@ module _ {K T S : Type 0} (seen : K → T) (code : K → ℕ) (reading : Reading
       let need : max (1 - reading.units i.left.tokens) 1 ≡ 1 = omega arith in
       let told = lacks_at form i.status.cut _ _ (fails_by e (fails_at {O = S} k (y, left_of j))) in
       let kind : k ≡ incomplete_kind form (Some (max (1 - reading.units i.left.tokens) 1)) =
-      elim told.0 [ inl c ↦ c.1 | inr c ↦ true_is_false (sym more ∙ c.0) ] in
-      inr (inl (
-        inside i.left.tokens still_open.0,
-        omega (arith, still_open.1),
-        more,
-        ap (λ x. Err x) (kind ∙ ap (λ n. incomplete_kind form (Some n)) need),
-        same_input i j (sym told.1) cut possible,
-      ))
+      elim told.0 [ inl c ↦ c.1 | inr c ↦ true_is_false (sym more ∙ c.0) ] in (
+        end,
+        cut,
+        possible,
+        inr (inl (
+          (inside i.left.tokens still_open.0, omega (arith, still_open.1), more),
+          ap (λ l. outcome_of (Err k) (tt {0}, l)) (sym told.1)
+              ∙ short form (Some 1) i k (tt {0}, left_of i)
+              (inl (more, kind ∙ ap (λ n. incomplete_kind form (Some n)) need)),
+        )),
+      )
   hex_missing number form x i k y j
       (end, cut, possible, inr (within, inr (inl (taken, rest, some, e)))) =
       absurd (fails_by e (fails_at {O = S} k (y, left_of j))).is
-  hex_missing number form x i k y j (
+  hex_missing {N} number form x i k y j (
     end,
     cut,
     possible,
     inr (within, inr (inr ((front, rest, (longest, ended), few), e))),
   ) =
       let none = none_front front rest i.left.tokens i.status.cut longest few ended in
-      let told = (fails_by e (fails_at {O = S} k (y, left_of j))).is in
-      inr (inr (inl (
-        none.0,
-        none.1,
-        ap (λ x. Err x) told.0,
-        same_input i j (sym told.1) cut possible,
-      )))
+      let told = (fails_by e (fails_at {O = S} k (y, left_of j))).is in (
+        end,
+        cut,
+        possible,
+        inr (inr (
+          inl none,
+          gave {O = N} (tt {0}, left_of j) (ap (λ x. Err x) told.0)
+              ∙ ap (λ l. backs (tt {0}, l)) (sym told.1),
+        )),
+      )
 
   pub hex_over : {N : Type 0} (number : N → ℕ) (form : ErrorForm) (i : Input T) (slice : S)
       (j : Input T) (k : Kind) (m : Input T) (taken : TakesHex i slice j)
       → length taken.digits ≡ most → SomeFirst seen code IsHexDigit j.left.tokens
-      → k ≡ backtrack → m ≡ i → HexUintRuns number most seen code reading form i (Err k) m
+      → k ≡ backtrack → m ≡ i → HexRan number form i (Err k) m
   hex_over number form i slice j k m taken full (t, rest, split, is) kind same =
-      inr (inr (inr (
-        taken.front,
-        t,
-        rest,
-        taken.takes.passed.tokens ∙ ap (λ l. taken.front ++ l) split,
-        taken.members,
-        sym taken.long ∙ full,
-        is,
-        ap (λ x. Err x) kind,
-        same,
+      fails_back reading (HexUintDoes number most seen code reading) form (tt {0}) i m k kind same
+      (inr (inr (
+        inr (
+          taken.front,
+          t,
+          rest,
+          taken.takes.passed.tokens ∙ ap (λ l. taken.front ++ l) split,
+          taken.members,
+          sym taken.long ∙ full,
+          is,
+        ),
+        refl,
       )))
 
   pub hex_open : {N : Type 0} (number : N → ℕ) (form : ErrorForm) (i : Input T) (slice : S)
       (j : Input T) (k : Kind) (m : Input T) (taken : TakesHex i slice j)
       → length taken.digits ≡ most → j.left.tokens ≡ [] → j.status.cut ≡ true
-      → k ≡ incomplete_kind form (Some 1) → m ≡ i
-      → HexUintRuns number most seen code reading form i (Err k) m
+      → k ≡ incomplete_kind form (Some 1) → m ≡ i → HexRan number form i (Err k) m
   hex_open number form i slice j k m taken full none cut kind same =
       let all : i.left.tokens ≡ taken.front =
       taken.takes.passed.tokens ∙ ap (λ l. taken.front ++ l) none ∙ append-nil taken.front in
       let P : List T → Type 0 = λ l. All (IsIn seen code IsHexDigit) l in
-      inr (inl (
-        subst P (sym all) taken.members,
-        omega (arith, ap (λ l. length l) all, taken.long, full),
-        ap (λ x. x.cut) (sym taken.takes.passed.status) ∙ cut,
-        ap (λ x. Err x) kind,
-        same,
-      ))
+      let more : i.status.cut ≡ true = ap (λ x. x.cut) (sym taken.takes.passed.status) ∙ cut in
+      let Q : Input T → Type 0 = λ x. HexRan number form i (Err k) x in
+      subst Q (sym same) (
+        is_end_of_refl reading i,
+        refl,
+        refl,
+        inr (inl (
+          (
+            subst P (sym all) taken.members,
+            omega (arith, ap (λ l. length l) all, taken.long, full),
+            more,
+          ),
+          short form (Some 1) i k (tt {0}, left_of i) (inl (more, kind)),
+        )),
+      )
 
   nothing_more : (i : Input T) (slice : S) (j : Input T) (taken : TakesHex i slice j)
       → (length taken.digits ≡ most → NoneFirst seen code IsHexDigit j.left.tokens)
@@ -311,27 +333,36 @@ module _ {K T S : Type 0} (seen : K → T) (code : K → ℕ) (reading : Reading
       (j : Input T) (n : N) (m : Input T) (taken : TakesHex i slice j)
       → (length taken.digits ≡ most → NoneFirst seen code IsHexDigit j.left.tokens)
       → (length taken.digits ≡ most → j.left.tokens ≡ [] → j.status.cut ≡ false)
-      → number n ≡ value_in 16 taken.digits → m ≡ j
-      → HexUintRuns number most seen code reading form i (Ok n) m
+      → number n ≡ value_in 16 taken.digits → m ≡ j → HexRan number form i (Ok n) m
   hex_done number form i slice j n m taken none whole value same =
       let few = taken.few in
       let or_full : (length taken.digits < most) ⊎ (length taken.digits ≡ most) =
       below_or_same (length taken.digits) most few in
-      let P : Input T → Type 0 = λ x. HexUintRuns number most seen code reading form i (Ok n) x in
-      subst P (sym same) (inl (
-        taken.front,
-        taken.digits,
-        n,
-        taken.takes.passed,
-        taken.chars,
-        taken.are,
-        taken.least,
-        few,
-        nothing_more i slice j taken none or_full,
-        λ empty. elim (taken.ended empty) [ inl e ↦ e | inr full ↦ whole full empty ],
-        value,
-        refl,
-      ))
+      let end = takes_end taken.takes in
+      let P : Input T → Type 0 = λ x. HexRan number form i (Ok n) x in
+      subst P (sym same) (
+        end,
+        end.cut,
+        end.ends.possible,
+        inl (
+          n,
+          left_of j,
+          (
+            taken.front,
+            taken.digits,
+            passed_of taken.takes.passed,
+            taken.chars,
+            taken.are,
+            taken.least,
+            few,
+            nothing_more i slice j taken none or_full,
+            λ empty. sym end.cut
+                ∙ (elim (taken.ended empty) [ inl e ↦ e | inr full ↦ whole full empty ]),
+            value,
+          ),
+          refl,
+        ),
+      )
 
   -- the bytes of the slice are the digits
   pub hex_bytes : (bytes_of : List T → List ℕ)

@@ -1,9 +1,10 @@
 mod DecimalLemmas
-mod DecimalRuns
 mod DigitLemmas
 mod FirstLemmas
 mod FirstNumeral
+mod FrontLemmas
 mod HexLemmas
 mod LaneLemmas
 mod LeftLemmas
+mod NumberLemmas
 mod NumeralLemmas

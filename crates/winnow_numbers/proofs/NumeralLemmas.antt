@@ -7,13 +7,15 @@ use Rattle.std.proofs.lemmas.List.Elements.{All-head, All-tail, All-weaker}
 use Rattle.std.specs.Prelude.{IsTrue, ◌↔◌, max, ◌-◌}
 use Rattle.streams.specs.Equal.{true_is_false}
 use Rattle.streams.specs.Input.{Input, IsEndOf, Passes, Remaining, Takes, back_at, passed_again}
+use Rattle.streams.specs.Input.{takes_end}
 use Rattle.streams.specs.Kind.{Kind, backtrack}
 use Rattle.streams.specs.Reading.{Reading}
 use Rattle.streams.specs.Stream.{AnswersSeen, Cuts, IsBoundary}
 use Rattle.stream_errors.specs.Form.{Answer, ErrorForm, incomplete_kind, plain, modal}
 use Rattle.stream_sets.specs.AsChar.{IsDecDigit}
 use Rattle.parser_definitions.specs.Digits.{AreCharacters, IsIn, NoneFirst}
-use Rattle.parser_definitions.specs.Numeral.{IsLeadingDigit, IsSign, is_none}
+use Rattle.parser_definitions.specs.Numeral.{HasDigits, HasNoDigits, HasNumeral, HasSign}
+use Rattle.parser_definitions.specs.Numeral.{IsLeadingDigit, IsSign, LacksMore, is_none, left_for}
 use Rattle.parser_definitions.specs.Members.{IsEnded}
 use Rattle.stream_sets.specs.Longest.{IsLongest}
 use Rattle.parser_definitions.specs.Class.{ClassDoes}
@@ -21,17 +23,13 @@ use Rattle.parser_definitions.specs.Does.{Ran}
 use Rattle.parser_definitions.specs.Inversion.Outcomes.{fails_at, fails_by, lacks_at, lacks_none}
 use Rattle.parser_definitions.specs.Inversion.Outcomes.{same_took}
 use Rattle.parser_definitions.specs.Left.{Left, left_of}
+use Rattle.parser_definitions.specs.Outcome.{backs, setting_of}
 use Rattle.parser_definitions.specs.Passed.{Passed}
-use Rattle.winnow_numbers.proofs.LeftLemmas.{passes_from, same_input}
-use Rattle.winnow_numbers.specs.Numeral.{DigitsRuns, LacksDigits, NoDigits, NoNumeral, NumeralRuns}
-use Rattle.winnow_numbers.specs.Numeral.{SignRuns, left_by}
-use Rattle.winnow_numbers.specs.Numeral.Inversion.{digits_front, numeral_front, passes_two}
-use Rattle.winnow_numbers.specs.Numeral.Inversion.{sign_front}
-use Rattle.winnow_numbers.specs.Numeral.Inversion.{sign_status}
-
--- the status is that of the start
-pub back_same : {T : Type 0} (i b : Input T) → b.status ≡ i.status → back_at i.left b ≡ i
-back_same i b e = ap (λ s. record i { status = s }) e
+use Rattle.winnow_core.specs.Covers.{gave}
+use Rattle.winnow_core.specs.Covers.Leaves.{passed_of, short}
+use Rattle.winnow_numbers.proofs.FrontLemmas.{digits_at, numeral_front}
+use Rattle.winnow_numbers.proofs.LeftLemmas.{passed_two, passes_from}
+use Rattle.winnow_numbers.specs.Numeral.{NumeralDoes}
 
 -- a character that is a sign, and one that is none
 pub is_sign : (c r : ℕ) → r ≡ c → (r ≡ 43) ⊎ ((r ≡ 43 → ⊥) × (r ≡ 45)) → IsSign c
@@ -78,9 +76,9 @@ module _ {K T S : Type 0} (seen : K → T) (code : K → ℕ) (reading : Reading
   -- the digits after a first one, and that there are no more
   abbrev pub MoreDigits : Input T → Input T → Type 0
   MoreDigits a j =
-      (front : List T) × (others : List ℕ) × Passes reading front a j
+      (front : List T) × (others : List ℕ) × Passed reading front (left_of a) (left_of j)
       × AreCharacters seen code front others × AllByRecursion IsDecDigit others
-      × NoneFirst seen code IsDecDigit j.left.tokens × (j.left.tokens ≡ [] → j.status.cut ≡ false)
+      × NoneFirst seen code IsDecDigit j.left.tokens × (j.left.tokens ≡ [] → a.status.cut ≡ false)
 
   -- a take of any number of digits
   abbrev pub DigitsTaken : {X : Type 0} → ErrorForm → X → Input T → Answer S → X → Input T → Type 0
@@ -104,12 +102,11 @@ module _ {K T S : Type 0} (seen : K → T) (code : K → ℕ) (reading : Reading
       let Q : Left T → Type 0 = λ l. Passed reading front (left_of a) l in (
         front,
         numbers.0,
-        passes_from a j (subst Q (sym rests) p) cut possible,
+        subst Q (sym rests) p,
         numbers.1,
         numbers.2,
         subst P left (none_first IsDecDigit front rest.tokens a.left.tokens longest),
-        λ none. cut
-            ∙ ended_whole IsDecDigit front rest.tokens a.status.cut ended (left ∙ none),
+        λ none. ended_whole IsDecDigit front rest.tokens a.status.cut ended (left ∙ none),
       )
   more_digits form x a slice y j (end, cut, possible, inr (within, inr (inr (few, e)))) = absurd cc
 
@@ -117,7 +114,7 @@ module _ {K T S : Type 0} (seen : K → T) (code : K → ℕ) (reading : Reading
   abbrev pub OnlyDigits : ErrorForm → Input T → Kind → Input T → Type 0
   OnlyDigits form a k j =
       All (IsIn seen code IsDecDigit) a.left.tokens × (a.status.cut ≡ true)
-      × (k ≡ incomplete_kind form (Some 1)) × (j ≡ a)
+      × (k ≡ incomplete_kind form (Some 1)) × (left_of j ≡ left_of a)
 
   digits_of : (tokens : List T)
       → All (λ t. AnswersSeen seen (λ x b. IsTrue b ↔ IsDecDigit (code x)) t true) tokens
@@ -138,7 +135,7 @@ module _ {K T S : Type 0} (seen : K → T) (code : K → ℕ) (reading : Reading
         digits_of a.left.tokens still_open.0,
         more,
         kind ∙ ap (λ n. incomplete_kind form (Some n)) need,
-        same_input a j (sym told.1) cut possible,
+        sym told.1,
       )
   only_digits form x a k y j
       (end, cut, possible, inr (within, inr (inl (taken, rest, some, e)))) =
@@ -148,10 +145,11 @@ module _ {K T S : Type 0} (seen : K → T) (code : K → ℕ) (reading : Reading
       absurd (omega arith)
 
   -- after a first digit more are passed,
-  pub leading : (zero : Bool) (i a j : Input T) (x : K) → IsLeadingDigit (code x)
-      → Passes reading (seen x ∷ []) i a → MoreDigits a j
-      → (digits : List ℕ) × DigitsRuns seen code reading zero i digits j
-  leading zero i a j x leads p (front, others, q, chars, are, none, whole) = (
+  pub leading : (form : ErrorForm) (zero : Bool) (i a j : Input T) (x : K)
+      → IsLeadingDigit (code x) → Passes reading (seen x ∷ []) i a → MoreDigits a j
+      → (digits : List ℕ)
+      × HasDigits seen code reading zero (setting_of form i) (left_of i) digits (left_of j)
+  leading form zero i a j x leads p (front, others, q, chars, are, none, whole) = (
     code x ∷ others,
     inr (
       seen x ∷ front,
@@ -160,29 +158,29 @@ module _ {K T S : Type 0} (seen : K → T) (code : K → ℕ) (reading : Reading
       refl,
       leads,
       are,
-      passes_two p q,
+      passed_two (passed_of p) q,
       ((x, refl, refl), chars),
       none,
-      whole,
+      λ empty. ap (λ y. y.cut) (sym p.status) ∙ whole empty,
     ),
   )
 
   -- why no digits were passed
   abbrev pub Misses : ErrorForm → Bool → Input T → Kind → Input T → Type 0
   Misses form zero a k b =
-      (LacksDigits seen code reading a b × (a.status.cut ≡ true)
+      (LacksMore seen code reading (left_of a) (left_of b) × (a.status.cut ≡ true)
       × (k ≡ incomplete_kind form (Some 1)))
-      ⊎ (NoDigits seen code zero a × (k ≡ backtrack))
+      ⊎ (HasNoDigits seen code zero (setting_of form a) (left_of a) × (k ≡ backtrack))
 
   -- or the input is too short
   pub leading_short : (form : ErrorForm) (zero : Bool) (i a j : Input T) (k : Kind) (x : K)
       → IsLeadingDigit (code x) → Passes reading (seen x ∷ []) i a → OnlyDigits form a k j
       → Misses form zero i k j
   leading_short form zero i a j k x leads p (all, cut, kind, same) =
-      let P : Input T → Type 0 = λ y. Passes reading (seen x ∷ []) i y in
-      let Q : Input T → Type 0 = λ y. All (IsIn seen code IsDecDigit) y.left.tokens in
+      let P : Left T → Type 0 = λ y. Passed reading (seen x ∷ []) (left_of i) y in
+      let Q : Left T → Type 0 = λ y. All (IsIn seen code IsDecDigit) y.tokens in
       inl (
-        inr (x, leads, subst P (sym same) p, subst Q (sym same) all),
+        inr (x, leads, subst P (sym same) (passed_of p), subst Q (sym same) all),
         ap (λ y. y.cut) (sym p.status) ∙ cut,
         kind,
       )
@@ -219,7 +217,7 @@ module _ {K T S : Type 0} (seen : K → T) (code : K → ℕ) (reading : Reading
 
   -- the start can be cut at that length
   pub bounded : (i j m : Input T) (front : List T) (start : Remaining T) (length : ℕ)
-      → start ≡ i.left → Passes reading front i j
+      → start ≡ i.left → Passed reading front (left_of i) (left_of j)
       → length + reading.units j.left.tokens ≡ reading.units start.tokens → m ≡ back_at start j
       → IsBoundary reading.units m.left.tokens length
   bounded i j m front start length at p long back =
@@ -231,66 +229,128 @@ module _ {K T S : Type 0} (seen : K → T) (code : K → ℕ) (reading : Reading
       ap (λ x. reading.units x.tokens) at in
       (front, j.left.tokens, tokens, omega arith)
 
-  -- what a numeral that is taken is
-  abbrev pub TakesNumeral : Bool → Input T → S → Input T → Type 0
-  TakesNumeral signed i slice k =
-      (front : List T) × (sign : List ℕ) × (digits : List ℕ)
-      × NumeralRuns seen code reading signed i sign digits k × Takes reading front i slice k
-      × AreCharacters seen code front (sign ++ digits)
+  -- a sign that is passed, and digits after it
+  abbrev pub SignPassed : Bool → Bool → Input T → Input T → Type 0
+  SignPassed signed zero i a =
+      (sign : List ℕ) × HasSign seen code reading signed (left_of i) sign (left_of a)
+      × (zero ≡ is_none sign)
 
-  pub numeral_taken : (signed zero : Bool) (i a j m k : Input T) (slice : S) (start : Remaining T)
-      (length : ℕ) → start ≡ i.left
-      → ((sign : List ℕ) × SignRuns seen code reading signed i sign a × (zero ≡ is_none sign))
-      → ((digits : List ℕ) × DigitsRuns seen code reading zero a digits j)
+  abbrev pub DigitsBehind : ErrorForm → Bool → Input T → Input T → Type 0
+  DigitsBehind form zero a j =
+      (digits : List ℕ)
+      × HasDigits seen code reading zero (setting_of form a) (left_of a) digits (left_of j)
+
+  -- they are a numeral
+  pub both : (form : ErrorForm) (signed zero : Bool) (i a j : Input T) → a.status.cut ≡ i.status.cut
+      → SignPassed signed zero i a → DigitsBehind form zero a j
+      → (sign : List ℕ) × (digits : List ℕ)
+      × HasNumeral seen code reading signed (setting_of form i) (left_of i) sign digits (left_of j)
+  both form signed zero i a j flag (sign, first, none) (digits, r) =
+      let P : Bool → Type 0 = λ z.
+      HasDigits seen code reading z (setting_of form a) (left_of a) digits (left_of j) in (
+        sign,
+        digits,
+        (
+          left_of a,
+          first,
+          digits_at seen code reading (is_none sign) (setting_of form a) (setting_of form i)
+              (left_of a) digits (left_of j) flag (subst P none r),
+        ),
+      )
+
+  -- the front of a numeral
+  pub front_of : (form : ErrorForm) (signed zero : Bool) (i a j : Input T)
+      → a.status.cut ≡ i.status.cut → SignPassed signed zero i a → DigitsBehind form zero a j
+      → (front : List T) × Passed reading front (left_of i) (left_of j)
+  front_of form signed zero i a j flag first r =
+      let (sign, digits, has) = both form signed zero i a j flag first r in
+      let p = numeral_front seen code reading signed (setting_of form i) (left_of i) sign digits
+      (left_of j) has in
+      (p.0, p.1)
+
+  pub numeral_taken : (form : ErrorForm) (signed zero : Bool) (i a j m k : Input T) (slice : S)
+      (start : Remaining T) (length : ℕ) → IsEndOf reading j i → start ≡ i.left
+      → a.status.cut ≡ i.status.cut → SignPassed signed zero i a → DigitsBehind form zero a j
       → length + reading.units j.left.tokens ≡ reading.units start.tokens → m ≡ back_at start j
-      → Cuts reading length m slice k → TakesNumeral signed i slice k
-  numeral_taken signed zero i a j m k slice start length at (sign, first, none) (digits, r) long
-      back
-      cuts =
-      let P : Bool → Type 0 = λ z. DigitsRuns seen code reading z a digits j in
-      let run = numeral_front seen code reading signed i sign digits j (a, first, subst P none r) in
+      → Cuts reading length m slice k
+      → Ran reading (NumeralDoes seen code reading signed) form (tt {0}) i (Ok slice) (tt {0}) k
+  numeral_taken form signed zero i a j m k slice start length end at flag first r long back cuts =
+      let (sign, digits, has) = both form signed zero i a j flag first r in
+      let p = numeral_front seen code reading signed (setting_of form i) (left_of i) sign digits
+      (left_of j) has in
       let Q : Input T → Type 0 = λ x. Cuts reading length x slice k in
-      let taken = taken_again i j k slice run.0 length run.1
+      let taken = taken_again i j k slice p.0 length (passes_from i j p.1 end.cut end.ends.possible)
       (long ∙ ap (λ x. reading.units x.tokens) at)
       (subst Q (back ∙ ap (λ x. back_at x j) at) cuts) in
-      let R : Input T → Type 0 =
-      λ x. NumeralRuns seen code reading signed i sign digits x in
-      (run.0, sign, digits, subst R (sym taken.0) (a, first, subst P none r), taken.1, run.2)
-
-  -- the front of a numeral, from the runs that pass it
-  pub runs_front : (signed zero : Bool) (i a j : Input T)
-      → ((sign : List ℕ) × SignRuns seen code reading signed i sign a × (zero ≡ is_none sign))
-      → ((digits : List ℕ) × DigitsRuns seen code reading zero a digits j)
-      → (front : List T) × Passes reading front i j
-  runs_front signed zero i a j (sign, first, none) (digits, r) =
-      let p = sign_front seen code reading signed i sign a first in
-      let q = digits_front seen code reading zero a digits j r in
-      (p.0 ++ q.0, passes_two p.1 q.1)
+      let R : Input T → Type 0 = λ x.
+      HasNumeral seen code reading signed (setting_of form i) (left_of i) sign digits (left_of x) in
+      let ends = takes_end taken.1 in (
+        ends,
+        ends.cut,
+        ends.ends.possible,
+        inl (
+          slice,
+          left_of k,
+          (
+            p.0,
+            sign,
+            digits,
+            subst R (sym taken.0) has,
+            taken.1.shown,
+            passed_of taken.1.passed,
+            p.2,
+          ),
+          refl,
+        ),
+      )
 
   -- the input is reset to the start if the error backtracks, and left at `b` otherwise
   abbrev pub GoesBack : Input T → Kind → Input T → Input T → Type 0
   GoesBack i k b n = (k ≡ backtrack → n ≡ i) × ((k ≡ backtrack → ⊥) → n ≡ b)
 
   lacking : (form : ErrorForm) (i : Input T) (k : Kind) (b n : Input T)
-      → k ≡ incomplete_kind form (Some 1) → GoesBack i k b n → n ≡ left_by form i b
-  lacking plain i k b n kind goes = goes.0 kind
-  lacking modal i k b n kind goes = goes.1 (λ e. cc)
+      → k ≡ incomplete_kind form (Some 1) → GoesBack i k b n
+      → left_of n ≡ left_for form (left_of i) (left_of b)
+  lacking plain i k b n kind goes = ap left_of (goes.0 kind)
+  lacking modal i k b n kind goes = ap left_of (goes.1 (λ e. cc))
 
   pub numeral_missing : (form : ErrorForm) (signed zero : Bool) (i a b n : Input T) (k : Kind)
-      → ((sign : List ℕ) × SignRuns seen code reading signed i sign a × (zero ≡ is_none sign))
-      → Misses form zero a k b → GoesBack i k b n → NoNumeral seen code reading form signed i k n
-  numeral_missing form signed zero i a b n k (sign, first, none) (inl (lacks, cut, kind)) goes = (
-    sign,
-    a,
-    first,
-    inl (
-      b,
-      lacks,
-      ap (λ x. x.cut) (sym (sign_status seen code reading signed i sign a first)) ∙ cut,
-      kind,
-      lacking form i k b n kind goes,
-    ),
-  )
-  numeral_missing form signed zero i a b n k (sign, first, none) (inr (missing, kind)) goes =
-      let P : Bool → Type 0 = λ z. NoDigits seen code z a in
-      (sign, a, first, inr (subst P none missing, kind, goes.0 kind))
+      → IsEndOf reading n i → a.status.cut ≡ i.status.cut → SignPassed signed zero i a
+      → Misses form zero a k b → GoesBack i k b n
+      → Ran reading (NumeralDoes seen code reading signed) form (tt {0}) i (Err k) (tt {0}) n
+  numeral_missing form signed zero i a b n k end flag (sign, first, none)
+      (inl (lacks, cut, kind)) goes = (
+        end,
+        end.cut,
+        end.ends.possible,
+        inr (inl (
+          left_of n,
+          (
+            sign,
+            left_of a,
+            left_of b,
+            first,
+            lacks,
+            sym flag ∙ cut,
+            lacking form i k b n kind goes,
+          ),
+          short form (Some 1) i k (tt {0}, left_of n) (inl (sym flag ∙ cut, kind)),
+        )),
+      )
+  numeral_missing form signed zero i a b n k end flag (sign, first, none)
+      (inr (missing, kind)) goes =
+      let P : Bool → Type 0 = λ z. HasNoDigits seen code z (setting_of form a) (left_of a) in (
+        end,
+        end.cut,
+        end.ends.possible,
+        inr (inr (
+          (sign, left_of a, first, no_digits (is_none sign) (subst P none missing)),
+          gave {O = S} (tt {0}, left_of n) (ap Err kind)
+              ∙ ap (λ x. backs (tt {0}, left_of x)) (goes.0 kind),
+        )),
+      )
+    where
+      no_digits : (z : Bool) → HasNoDigits seen code z (setting_of form a) (left_of a)
+          → HasNoDigits seen code z (setting_of form i) (left_of a)
+      no_digits z (inl (empty, whole)) = inl (empty, sym flag ∙ whole)
+      no_digits z (inr other) = inr other

@@ -1,10 +1,10 @@
 //! The numbers of short numerals.
-ghost use Rattle.std.specs.Prelude.{◌≡◌, ◌≤◌, ◌-◌, IfSome, ℕ, List, length, true};
+ghost use Rattle.std.specs.Prelude.{◌≡◌, ◌≤◌, ◌-◌, IfSome, ℕ, List, length};
 ghost use Rattle.stream_sets.specs.AsChar.{IsDecDigit};
 ghost use Rattle.streams.specs.Input.{IsEndOf};
 ghost use Rattle.parser_definitions.specs.Digits.{value_in};
 ghost use Rattle.winnow_numbers.specs.Lanes.{StartsWithNumeral};
-ghost use Rattle.winnow_numbers.specs.Numeral.{DigitsRuns};
+ghost use Rattle.winnow_numbers.specs.Numeral.{PassesDigits};
 
 use crate::ascii::lanes::first_numeral;
 use stream_sets::as_bstr::{AsBStr, SlicesAsBytes};
@@ -22,9 +22,8 @@ pub(crate) fn small_numeral<I: StreamIsPartial + SlicesAsBytes>(input: &mut I) -
 where
     I::Token: AsChar,
     I::Slice: AsBStr,
-    ensures ran { IfSome result (λ number. (digits : List ℕ)
-        × DigitsRuns I.seen_as I.Token.code I.reading true (I.view input.old) digits
-        (I.view input.new) × (number ≡ value_in 10 digits)) }
+    ensures ran { IfSome result (PassesDigits I.seen_as I.Token.code I.reading
+        (I.view input.old) (I.view input.new)) }
     ensures status { (I.view input.new).status ≡ (I.view input.old).status }
     ensures ends { IsEndOf I.reading (I.view input.new) (I.view input.old) }
 {
@@ -60,9 +59,8 @@ where
 fn numeral_by_tokens<I: StreamIsPartial>(input: &mut I) -> Option<u64>
 where
     I::Token: AsChar,
-    ensures ran { IfSome result (λ number. (digits : List ℕ)
-        × DigitsRuns I.seen_as I.Token.code I.reading true (I.view input.old) digits
-        (I.view input.new) × (number ≡ value_in 10 digits)) }
+    ensures ran { IfSome result (PassesDigits I.seen_as I.Token.code I.reading
+        (I.view input.old) (I.view input.new)) }
     ensures status { (I.view input.new).status ≡ (I.view input.old).status }
     ensures ends { IsEndOf I.reading (I.view input.new) (I.view input.old) }
 {

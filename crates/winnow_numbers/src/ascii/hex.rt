@@ -1,13 +1,13 @@
 //! Hexadecimal numbers.
-ghost use Rattle.std.specs.Prelude.{◌≡◌, ◌+◌, ◌*◌, ◌<◌, ◌≤◌, [], length, true, false};
+ghost use Rattle.std.specs.Prelude.{⊤, ◌≡◌, ◌+◌, ◌*◌, ◌<◌, ◌≤◌, [], length, true, false};
 ghost use Rattle.std.specs.Bool.{MatchBool};
 ghost use Rattle.std.specs.Char.{digit_value};
 ghost use Rattle.std.specs.List.{AllByRecursion};
 ghost use Rattle.stream_errors.specs.Form.{answer_by};
 ghost use Rattle.stream_sets.specs.AsChar.{IsHexDigit};
-ghost use Rattle.streams.specs.Input.{IsEndOf};
+ghost use Rattle.parser_definitions.specs.Does.{Ran};
 ghost use Rattle.parser_definitions.specs.Digits.{NoneFirst, SomeFirst, value_in};
-ghost use Rattle.winnow_numbers.specs.HexUint.{HexUintRuns};
+ghost use Rattle.parser_definitions.specs.HexUint.{HexUintDoes};
 
 use crate::ascii::impls::hex_uint::HexUint;
 use crate::ascii::impls::hex_uint::sealed::SealedMarker;
@@ -43,10 +43,9 @@ where
     Input::Slice: AsBStr,
     Output: HexUint,
     Error: ParserError<Input>,
-    ensures ran { HexUintRuns Output.number Output.nibbles Input.seen_as Input.Token.code
-        Input.reading Error.form (Input.view input.old) (answer_by Error.kind result)
-        (Input.view input.new) }
-    ensures ends { IsEndOf Input.reading (Input.view input.new) (Input.view input.old) }
+    ensures ran { Ran {S = ⊤} Input.reading (HexUintDoes Output.number Output.nibbles
+        Input.seen_as Input.Token.code Input.reading) Error.form tt (Input.view input.old)
+        (answer_by Error.kind result) tt (Input.view input.new) }
 {
     let start = input.checkpoint();
     let most = Output::max_nibbles(SealedMarker);

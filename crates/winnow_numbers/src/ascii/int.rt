@@ -1,13 +1,13 @@
 //! Decimal signed numbers.
-ghost use Rattle.std.specs.Prelude.{◌≡◌, ℕ, ℤ, FitsSigned, IfSome, List, MatchOption, true};
+ghost use Rattle.std.specs.Prelude.{⊤, ◌≡◌, ℤ, FitsSigned, IfSome, MatchOption};
 ghost use Rattle.std.specs.Int.{w8, w16, w32, w64, w128};
 ghost use Rattle.std.specs.Str.{IsUtf8};
 ghost use Rattle.stream_errors.specs.Form.{answer_by};
 ghost use Rattle.streams.specs.Input.{IsEndOf};
-ghost use Rattle.parser_definitions.specs.Number.{signed_value};
-ghost use Rattle.winnow_numbers.specs.DecInt.{DecIntRuns};
+ghost use Rattle.parser_definitions.specs.Does.{Ran};
+ghost use Rattle.parser_definitions.specs.Number.{DecIntDoes};
 ghost use Rattle.winnow_numbers.specs.DecimalText.{ReadsSigned};
-ghost use Rattle.winnow_numbers.specs.Numeral.{NumeralRuns, SignedBy};
+ghost use Rattle.winnow_numbers.specs.Numeral.{PassesSigned, SignedBy};
 
 use crate::ascii::digits::small_numeral;
 use crate::ascii::numeral::{first_sign, take_numeral};
@@ -35,7 +35,7 @@ pub trait Int: Sized {
     fn try_from_dec_int(slice: &str) -> Option<Self>
         ensures { ReadsSigned number fits slice.now result };
 
-    /// The value of a number, `None` exactly where it does not fit.
+    /// The value of a number, `None` if and only if it does not fit.
     fn try_from_number(value: i64) -> Option<Self>
         ensures { MatchOption result (fits value → ⊥)
             (λ n. fits value × (number n ≡ value)) };
@@ -156,9 +156,9 @@ impl Int for isize {
 /// number does not fit the type.
 ///
 /// It is incomplete on partial input that has nothing after an optional sign, or that ends in the
-/// digits of a number that does not begin with `0`. The input is left after the sign and the first
-/// digit that are there. The need is 1 unit. With an error type without a mode it backtracks
-/// instead, and consumes nothing.
+/// digits of a number that does not begin with `0`. The sign and the first digit that are there
+/// are consumed. The need is 1 unit. With an error type without a mode it backtracks instead, and
+/// consumes nothing.
 ///
 /// Known as `i8` to `i128` of `character::complete` in nom.
 ///
@@ -183,9 +183,9 @@ where
     Input::Slice: AsBStr,
     Output: Int,
     Error: ParserError<Input>,
-    ensures ran { DecIntRuns Output.number Output.fits Input.seen_as Input.Token.code Input.reading
-        Error.form (Input.view input.old) (answer_by Error.kind result) (Input.view input.new) }
-    ensures ends { IsEndOf Input.reading (Input.view input.new) (Input.view input.old) }
+    ensures ran { Ran {S = ⊤} Input.reading (DecIntDoes Output.number Output.fits
+        Input.seen_as Input.Token.code Input.reading) Error.form tt (Input.view input.old)
+        (answer_by Error.kind result) tt (Input.view input.new) }
 {
     let start = input.checkpoint();
     if let Some(number) = small_int(input) {
@@ -205,9 +205,8 @@ fn small_int<I: StreamIsPartial + SlicesAsBytes>(input: &mut I) -> Option<i64>
 where
     I::Token: AsChar,
     I::Slice: AsBStr,
-    ensures ran { IfSome result (λ number. (sign : List ℕ) × (digits : List ℕ)
-        × NumeralRuns I.seen_as I.Token.code I.reading true (I.view input.old) sign digits
-        (I.view input.new) × (number ≡ signed_value sign digits)) }
+    ensures ran { IfSome result (PassesSigned I.seen_as I.Token.code I.reading
+        (I.view input.old) (I.view input.new)) }
     ensures status { (I.view input.new).status ≡ (I.view input.old).status }
     ensures ends { IsEndOf I.reading (I.view input.new) (I.view input.old) }
 {
@@ -243,9 +242,8 @@ where
     I::Slice: AsBStr,
     N: Int,
     E: ParserError<I>,
-    ensures ran { DecIntRuns N.number N.fits I.seen_as I.Token.code I.reading
-        E.form (I.view input.old) (answer_by E.kind result) (I.view input.new) }
-    ensures ends { IsEndOf I.reading (I.view input.new) (I.view input.old) }
+    ensures ran { Ran {S = ⊤} I.reading (DecIntDoes N.number N.fits I.seen_as I.Token.code
+        I.reading) E.form tt (I.view input.old) (answer_by E.kind result) tt (I.view input.new) }
 {
     let start = input.checkpoint();
     match take_numeral::<I, E>(input, true) {

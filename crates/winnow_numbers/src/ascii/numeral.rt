@@ -1,12 +1,14 @@
 //! Decimal numerals, as slices of the input.
-ghost use Rattle.std.specs.Prelude.{◌≡◌, ◌++◌, ℕ, List, MatchResult, Some, true, ◌⊎◌};
-ghost use Rattle.streams.specs.Input.{IsEndOf, Takes};
+ghost use Rattle.std.specs.Prelude.{⊤, ◌≡◌, ℕ, List, MatchResult, Some, true, ◌⊎◌};
+ghost use Rattle.streams.specs.Input.{IsEndOf};
 ghost use Rattle.streams.specs.Kind.{backtrack};
-ghost use Rattle.stream_errors.specs.Form.{incomplete_kind};
-ghost use Rattle.parser_definitions.specs.Digits.{AreCharacters};
+ghost use Rattle.stream_errors.specs.Form.{answer_by, incomplete_kind};
+ghost use Rattle.parser_definitions.specs.Does.{Ran};
+ghost use Rattle.parser_definitions.specs.Left.{left_of};
+ghost use Rattle.parser_definitions.specs.Numeral.{HasDigits, HasNoDigits, HasSign, LacksMore};
 ghost use Rattle.parser_definitions.specs.Numeral.{is_none};
-ghost use Rattle.winnow_numbers.specs.Numeral.{DigitsRuns, LacksDigits, NoDigits, NoNumeral};
-ghost use Rattle.winnow_numbers.specs.Numeral.{NumeralRuns, SignRuns, sign_of};
+ghost use Rattle.parser_definitions.specs.Outcome.{setting_of};
+ghost use Rattle.winnow_numbers.specs.Numeral.{NumeralDoes, sign_of};
 
 use stream_errors::parser_error::ParserError;
 use stream_sets::as_char::AsChar;
@@ -23,15 +25,8 @@ pub(crate) fn take_numeral<I: StreamIsPartial, E: ParserError<I>>(
 ) -> Result<I::Slice, E>
 where
     I::Token: AsChar,
-    ensures ran { MatchResult result
-        (λ slice. (front : List I.Seen) × (sign : List ℕ) × (digits : List ℕ)
-        × NumeralRuns I.seen_as I.Token.code I.reading signed (I.view input.old) sign digits
-        (I.view input.new)
-        × Takes I.reading front (I.view input.old) slice (I.view input.new)
-        × AreCharacters I.seen_as I.Token.code front (sign ++ digits))
-        (λ error. NoNumeral I.seen_as I.Token.code I.reading E.form signed (I.view input.old)
-        (E.kind error) (I.view input.new)) }
-    ensures ends { IsEndOf I.reading (I.view input.new) (I.view input.old) }
+    ensures ran { Ran {S = ⊤} I.reading (NumeralDoes I.seen_as I.Token.code I.reading signed)
+        E.form tt (I.view input.old) (answer_by E.kind result) tt (I.view input.new) }
 {
     let start = input.checkpoint();
     let zero = pass_sign(input, signed);
@@ -56,8 +51,10 @@ where
 fn pass_sign<I: Stream>(input: &mut I, signed: bool) -> bool
 where
     I::Token: AsChar,
-    ensures ran { (sign : List ℕ) × SignRuns I.seen_as I.Token.code I.reading signed
-        (I.view input.old) sign (I.view input.new) × (result ≡ is_none sign) }
+    ensures ran { (sign : List ℕ) × HasSign I.seen_as I.Token.code I.reading signed
+        (left_of (I.view input.old)) sign (left_of (I.view input.new))
+        × (result ≡ is_none sign) }
+    ensures status { (I.view input.new).status ≡ (I.view input.old).status }
     ensures ends { IsEndOf I.reading (I.view input.new) (I.view input.old) }
 {
     if !signed {
@@ -74,8 +71,8 @@ where
 pub(crate) fn first_sign<I: Stream>(input: &mut I) -> Option<char>
 where
     I::Token: AsChar,
-    ensures ran { SignRuns I.seen_as I.Token.code I.reading true (I.view input.old)
-        (sign_of result) (I.view input.new) }
+    ensures ran { HasSign I.seen_as I.Token.code I.reading true (left_of (I.view input.old))
+        (sign_of result) (left_of (I.view input.new)) }
     ensures status { (I.view input.new).status ≡ (I.view input.old).status }
     ensures ends { IsEndOf I.reading (I.view input.new) (I.view input.old) }
 {
@@ -100,14 +97,15 @@ fn pass_digits<I: StreamIsPartial, E: ParserError<I>>(input: &mut I, zero: bool)
 where
     I::Token: AsChar,
     ensures ran { MatchResult result
-        (λ _. (digits : List ℕ) × DigitsRuns I.seen_as I.Token.code I.reading zero
-        (I.view input.old) digits (I.view input.new))
+        (λ _. (digits : List ℕ) × HasDigits I.seen_as I.Token.code I.reading zero
+        (setting_of E.form (I.view input.old)) (left_of (I.view input.old)) digits
+        (left_of (I.view input.new)))
         (λ error.
-        (LacksDigits I.seen_as I.Token.code I.reading (I.view input.old) (I.view input.new)
-        × ((I.view input.old).status.cut ≡ true)
+        (LacksMore I.seen_as I.Token.code I.reading (left_of (I.view input.old))
+        (left_of (I.view input.new)) × ((I.view input.old).status.cut ≡ true)
         × (E.kind error ≡ incomplete_kind E.form (Some 1)))
-        ⊎ (NoDigits I.seen_as I.Token.code zero (I.view input.old)
-        × (E.kind error ≡ backtrack))) }
+        ⊎ (HasNoDigits I.seen_as I.Token.code zero (setting_of E.form (I.view input.old))
+        (left_of (I.view input.old)) × (E.kind error ≡ backtrack))) }
     ensures status { (I.view input.new).status ≡ (I.view input.old).status }
     ensures ends { IsEndOf I.reading (I.view input.new) (I.view input.old) }
 {

@@ -1,9 +1,9 @@
 //! Decimal unsigned numbers.
-ghost use Rattle.std.specs.Prelude.{◌≡◌, ◌<◌, ◌≤◌, ◌^◌, ℕ, MatchOption};
+ghost use Rattle.std.specs.Prelude.{⊤, ◌≡◌, ◌<◌, ◌≤◌, ◌^◌, ℕ, MatchOption};
 ghost use Rattle.std.specs.Str.{IsUtf8};
 ghost use Rattle.stream_errors.specs.Form.{answer_by};
-ghost use Rattle.streams.specs.Input.{IsEndOf};
-ghost use Rattle.winnow_numbers.specs.DecUint.{DecUintRuns};
+ghost use Rattle.parser_definitions.specs.Does.{Ran};
+ghost use Rattle.parser_definitions.specs.Number.{DecUintDoes};
 ghost use Rattle.winnow_numbers.specs.DecimalText.{ReadsUnsigned};
 
 use crate::ascii::digits::small_numeral;
@@ -32,7 +32,7 @@ pub trait Uint: Sized {
     fn try_from_dec_uint(slice: &str) -> Option<Self>
         ensures { ReadsUnsigned number bound slice.now result };
 
-    /// The value of a number, `None` exactly where it does not fit.
+    /// The value of a number, `None` if and only if it does not fit.
     fn try_from_number(value: u64) -> Option<Self>
         ensures { MatchOption result (bound ≤ value)
             (λ n. (value < bound) × (number n ≡ value)) };
@@ -152,9 +152,9 @@ impl Uint for usize {
 /// does not fit the type.
 ///
 /// On partial input that is empty it is incomplete, and consumes nothing. On partial input that
-/// ends in the digits of a number that does not begin with `0` it is incomplete, and the input is
-/// left after the first digit. The need is 1 unit. With an error type without a mode it backtracks
-/// instead, and consumes nothing.
+/// ends in the digits of a number that does not begin with `0` it is incomplete, and the first
+/// digit is consumed. The need is 1 unit. With an error type without a mode it backtracks instead,
+/// and consumes nothing.
 ///
 /// Known as `u8` to `u128` of `character::complete` in nom.
 ///
@@ -178,10 +178,9 @@ where
     Input::Slice: AsBStr,
     Output: Uint,
     Error: ParserError<Input>,
-    ensures ran { DecUintRuns Output.number Output.bound Input.seen_as Input.Token.code
-        Input.reading
-        Error.form (Input.view input.old) (answer_by Error.kind result) (Input.view input.new) }
-    ensures ends { IsEndOf Input.reading (Input.view input.new) (Input.view input.old) }
+    ensures ran { Ran {S = ⊤} Input.reading (DecUintDoes Output.number Output.bound
+        Input.seen_as Input.Token.code Input.reading) Error.form tt (Input.view input.old)
+        (answer_by Error.kind result) tt (Input.view input.new) }
 {
     let start = input.checkpoint();
     if let Some(number) = small_numeral(input) {
@@ -202,9 +201,8 @@ where
     I::Slice: AsBStr,
     N: Uint,
     E: ParserError<I>,
-    ensures ran { DecUintRuns N.number N.bound I.seen_as I.Token.code I.reading
-        E.form (I.view input.old) (answer_by E.kind result) (I.view input.new) }
-    ensures ends { IsEndOf I.reading (I.view input.new) (I.view input.old) }
+    ensures ran { Ran {S = ⊤} I.reading (DecUintDoes N.number N.bound I.seen_as I.Token.code
+        I.reading) E.form tt (I.view input.old) (answer_by E.kind result) tt (I.view input.new) }
 {
     let start = input.checkpoint();
     match take_numeral::<I, E>(input, false) {

@@ -1,6 +1,6 @@
 use Rattle.winnow.specs.Bytes.{bytes_reading}
 use Rattle.winnow.specs.Form.{plain}
-use Rattle.winnow.specs.NumberDefinition.{NumberDoes, unsigned_numbers}
+use Rattle.winnow.specs.Number.{NumberDoes, unsigned_numbers}
 use Rattle.winnow.specs.Premises.Decided.{did_stays}
 use Rattle.winnow.specs.Premises.Numbers.{number_stays}
 use Rattle.example_formulas.proofs.sizes.a_number_stays.Goals as goal

@@ -1,4 +1,5 @@
 use Rattle.std.proofs.Common.{arith, inl, refl, sym, ◌∙◌}
+use Rattle.winnow_core.specs.Covers.Leaves.{passed_of}
 use Rattle.winnow_numbers.proofs.DigitLemmas.{begun_ended, begun_more, begun_one, begun_stopped}
 use Rattle.winnow_numbers.proofs.DigitLemmas.{passes_fewer}
 use Rattle.winnow_numbers.proofs.ascii.digits.numeral_by_tokens.Goals as goal
@@ -10,7 +11,7 @@ returns-in-0-clause-ran g c = (
     c.in_ok-next_token.field-0,
     refl,
     sym c.as_char.ensures ∙ c.in-0.is,
-    c.in_ok-next_token.ensures.passes,
+    passed_of c.in_ok-next_token.ensures.passes,
     refl,
   ),
   refl,

@@ -1,6 +1,8 @@
-use Rattle.std.proofs.Common.{inl, inr, refl, ap, ◌∙◌, ◌∷◌, []}
-use Rattle.streams.specs.Input.{back_at}
-use Rattle.winnow_numbers.proofs.NumeralLemmas.{back_same, is_sign, no_sign}
+use Rattle.std.proofs.Common.{inl, inr, refl, ap, ◌∷◌, []}
+use Rattle.parser_definitions.specs.Left.{left_of}
+use Rattle.winnow_core.specs.Covers.Leaves.{passed_of}
+use Rattle.winnow_numbers.proofs.LeftLemmas.{back_to}
+use Rattle.winnow_numbers.proofs.NumeralLemmas.{is_sign, no_sign}
 use Rattle.winnow_numbers.proofs.ascii.numeral.first_sign.Goals as goal
 
 pub returns-then-character-eq43-clause-ran : goal.returns-then-character-eq43-clause-ran
@@ -9,7 +11,7 @@ returns-then-character-eq43-clause-ran g c =
       c.in-Some.token,
       refl,
       is_sign _ _ c.as_char-character.ensures c.then-character-eq43.either,
-      c.in-Some.ensures.passes,
+      passed_of c.in-Some.ensures.passes,
       ap (λ x. x ∷ []) c.as_char-character.ensures,
     )
 
@@ -29,8 +31,7 @@ returns-clause-ran g c =
         ),
       ),
       refl,
-      c.reset.ensures ∙ ap (λ x. back_at x (g.I.Stream.view c.next_token.new.self))
-          c.checkpoint-start.ensures
-          ∙ back_same (g.I.Stream.view c.args.input.now) (g.I.Stream.view c.next_token.new.self)
-          passes.status,
+      ap left_of (back_to (g.I.Stream.view c.args.input.now)
+          (g.I.Stream.view c.next_token.new.self) _ _ c.checkpoint-start.ensures passes.status
+          c.reset.ensures),
     )
