@@ -12,7 +12,7 @@ use Rattle.streams.specs.Reading.{Reading}
 use Rattle.parser_definitions.specs.Digits.{AreCharacters, NoneFirst, characters_two}
 use Rattle.parser_definitions.specs.Digits.{value_is}
 use Rattle.parser_definitions.specs.Numeral.{IsLeadingDigit}
-use Rattle.winnow_core.specs.Covers.Leaves.{passed_of}
+use Rattle.winnow_core.specs.Leaves.{passed_of}
 use Rattle.winnow_numbers.proofs.LeftLemmas.{back_to, passes_two}
 use Rattle.winnow_numbers.specs.Numeral.{PassesDigits}
 

@@ -15,7 +15,7 @@ use Rattle.parser_definitions.specs.Left.{left_of}
 use Rattle.parser_definitions.specs.Numeral.{HasDigits}
 use Rattle.parser_definitions.specs.Outcome.{setting_of}
 use Rattle.stream_errors.specs.Form.{plain}
-use Rattle.winnow_core.specs.Covers.Leaves.{passed_of}
+use Rattle.winnow_core.specs.Leaves.{passed_of}
 use Rattle.winnow_numbers.specs.Numeral.{PassesDigits}
 
 -- the digits of a numeral are digits

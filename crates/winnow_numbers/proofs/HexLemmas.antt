@@ -36,8 +36,8 @@ use Rattle.parser_definitions.specs.Outcome.{backs, outcome_of}
 use Rattle.parser_definitions.specs.Passed.{Passed}
 use Rattle.parser_definitions.specs.TakeWhile.{TakeWhileDoes}
 use Rattle.stream_sets.specs.Longest.{IsLongest}
-use Rattle.winnow_core.specs.Covers.{gave}
-use Rattle.winnow_core.specs.Covers.Leaves.{passed_of, short}
+use Rattle.winnow_core.specs.Results.{gave}
+use Rattle.winnow_core.specs.Leaves.{passed_of, short}
 use Rattle.winnow_numbers.proofs.LeftLemmas.{fails_back, passes_from}
 use Rattle.winnow_numbers.proofs.NumberLemmas.{spelled}
 use Rattle.winnow_numbers.proofs.NumeralLemmas.{numbers_of}

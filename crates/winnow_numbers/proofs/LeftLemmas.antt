@@ -9,7 +9,7 @@ use Rattle.parser_definitions.specs.Does.{Ran}
 use Rattle.parser_definitions.specs.Left.{Left, left_of}
 use Rattle.parser_definitions.specs.Outcome.{Does, backs, setting_of}
 use Rattle.parser_definitions.specs.Passed.{Passed}
-use Rattle.winnow_core.specs.Covers.Leaves.{passed_of}
+use Rattle.winnow_core.specs.Leaves.{passed_of}
 
 -- the tokens that are passed
 pub passes_from : {T S : Type 0} {reading : Reading T S} {front : List T} (i j : Input T)

@@ -21,8 +21,8 @@ use Rattle.parser_definitions.specs.Number.{DecIntDoes, DecUintDoes, NumberDoes,
 use Rattle.parser_definitions.specs.Number.{signed_numbers, unsigned_numbers}
 use Rattle.parser_definitions.specs.Numeral.{HasSign, IsSign}
 use Rattle.parser_definitions.specs.Outcome.{backs, outcome_of, setting_of}
-use Rattle.winnow_core.specs.Covers.{gave}
-use Rattle.winnow_core.specs.Covers.Leaves.{short}
+use Rattle.winnow_core.specs.Results.{gave}
+use Rattle.winnow_core.specs.Leaves.{short}
 use Rattle.winnow_numbers.specs.DecimalText.{IsSignedText, IsUnsignedText, ReadsSigned}
 use Rattle.winnow_numbers.specs.DecimalText.{ReadsUnsigned}
 use Rattle.winnow_numbers.specs.Numeral.{IsNumeral, NumeralDoes, PassesDigits, PassesSigned}

@@ -25,8 +25,8 @@ use Rattle.parser_definitions.specs.Inversion.Outcomes.{same_took}
 use Rattle.parser_definitions.specs.Left.{Left, left_of}
 use Rattle.parser_definitions.specs.Outcome.{backs, setting_of}
 use Rattle.parser_definitions.specs.Passed.{Passed}
-use Rattle.winnow_core.specs.Covers.{gave}
-use Rattle.winnow_core.specs.Covers.Leaves.{passed_of, short}
+use Rattle.winnow_core.specs.Results.{gave}
+use Rattle.winnow_core.specs.Leaves.{passed_of, short}
 use Rattle.winnow_numbers.proofs.FrontLemmas.{digits_at, numeral_front}
 use Rattle.winnow_numbers.proofs.LeftLemmas.{passed_two, passes_from}
 use Rattle.winnow_numbers.specs.Numeral.{NumeralDoes}

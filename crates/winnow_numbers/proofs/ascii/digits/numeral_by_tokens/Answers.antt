@@ -1,5 +1,5 @@
 use Rattle.std.proofs.Common.{arith, inl, refl, sym, ◌∙◌}
-use Rattle.winnow_core.specs.Covers.Leaves.{passed_of}
+use Rattle.winnow_core.specs.Leaves.{passed_of}
 use Rattle.winnow_numbers.proofs.DigitLemmas.{begun_ended, begun_more, begun_one, begun_stopped}
 use Rattle.winnow_numbers.proofs.DigitLemmas.{passes_fewer}
 use Rattle.winnow_numbers.proofs.ascii.digits.numeral_by_tokens.Goals as goal

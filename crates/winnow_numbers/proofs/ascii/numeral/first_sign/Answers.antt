@@ -1,6 +1,6 @@
 use Rattle.std.proofs.Common.{inl, inr, refl, ap, ◌∷◌, []}
 use Rattle.parser_definitions.specs.Left.{left_of}
-use Rattle.winnow_core.specs.Covers.Leaves.{passed_of}
+use Rattle.winnow_core.specs.Leaves.{passed_of}
 use Rattle.winnow_numbers.proofs.LeftLemmas.{back_to}
 use Rattle.winnow_numbers.proofs.NumeralLemmas.{is_sign, no_sign}
 use Rattle.winnow_numbers.proofs.ascii.numeral.first_sign.Goals as goal

@@ -1,5 +1,5 @@
 use Rattle.std.proofs.Common.{arith, inl, refl, sym, ◌∙◌}
-use Rattle.winnow_core.specs.Covers.Leaves.{passed_of}
+use Rattle.winnow_core.specs.Leaves.{passed_of}
 use Rattle.winnow_numbers.proofs.NumeralLemmas.{leading, leading_short, more_digits, only_digits}
 use Rattle.winnow_numbers.proofs.ascii.numeral.pass_digits.Goals as goal
 
