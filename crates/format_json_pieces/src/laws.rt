@@ -42,8 +42,8 @@ pub fn no_value_ends_elsewhere<A: Allocator>()
         → IsNext level (bytes ++ more) (Some v) other → other ≡ rest ++ more }
 {}
 
-/// What the scanner finds is a value: if it stops before `rest`, the bytes before are whitespace,
-/// and then a value by RFC 8259, which ends there.
+/// All that the scanner finds is a value: if it stops before `rest`, the bytes before are whitespace
+/// and the UTF-8 of a value by RFC 8259, which ends there.
 ///
 /// An allocator makes the value, and its strings and lists have fewer than 2⁶³ bytes or items, as a
 /// slice has.
@@ -62,12 +62,12 @@ pub fn what_is_found_is_a_value<A: Allocator>()
         → (v : Value A) × IsNext level bytes (Some v) rest }
 {}
 
-/// The scanner accepts bytes if and only if they are a prefix of bytes with a value at their start,
-/// perhaps after whitespace. So the bytes before an error can continue to a value, and with the
-/// byte there they cannot, regardless of what follows.
+/// Bytes are accepted by the scanner if and only if they are a prefix of bytes that start with a
+/// value, perhaps after whitespace. So the bytes before an error can continue to a value (`there`),
+/// and with the byte there they cannot, regardless of what follows (`back`).
 ///
-/// For the first, an allocator makes the value, as in [`what_is_found_is_a_value`]. Therefore the
-/// bytes are fewer than 2⁶¹.
+/// As in [`what_is_found_is_a_value`], an allocator makes the value. So the bytes of `there` are
+/// fewer than 2⁶¹.
 ///
 /// ```
 /// use format_json_pieces::laws::prefixes_are_those_of_values;

@@ -130,12 +130,12 @@ fn end_of(bytes: &[u8]) -> Place
     }
 }
 
-/// The walk of [`first_place`] accepts bytes if and only if some JSON text starts with them, at the
-/// same level. So each prefix that the walk accepts has a continuation that is a text, and
-/// bytes that it rejects have none.
+/// Bytes are accepted by the walk of [`first_place`] if and only if they are a prefix of a JSON text
+/// at the same level: bytes that it accepts have a continuation that is a text (`there`), and bytes
+/// that it rejects have none (`back`).
 ///
-/// For the first, an allocator makes the value, and its strings and lists have fewer than 2⁶³ bytes
-/// or items, as a slice has. Therefore the bytes are fewer than 2⁶¹.
+/// An allocator makes the value, and its strings and lists have fewer than 2⁶³ bytes or items, as a
+/// slice has. So the bytes of `there` are fewer than 2⁶¹.
 ///
 /// ```
 /// use format_json_pieces::place::prefixes_are_those_of_texts;
