@@ -55,6 +55,7 @@ mod exports;
 pub mod http;
 pub mod ini;
 pub mod json;
+mod nodes;
 pub mod pairs;
 pub mod resp;
 pub mod toml;

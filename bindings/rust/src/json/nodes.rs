@@ -4,39 +4,37 @@ pub use crate::exports::JsonNode as Node;
 use super::lookup::after_name;
 use super::{check, unknown, Kind, Value};
 use crate::exports;
-use crate::{Error, RequiredSize};
 #[cfg(feature = "alloc")]
-use alloc::vec::Vec;
+use crate::nodes::OwnedList;
+use crate::nodes::{Entry, Inside, List};
+use crate::{Error, RequiredSize};
 use core::fmt;
+
+/// A text, and the depth to which it was checked.
+type Input<'i> = (&'i str, usize);
+/// The values in an array or an object, with the names of members.
+type Children<'b> = Inside<'b, Input<'b>, Node>;
 
 /// The values of a JSON text, as nodes in a buffer.
 #[derive(Clone, Copy, Debug)]
-pub struct Nodes<'b> {
-    text: &'b str,
-    nodes: &'b [Node],
-    max_depth: usize,
-}
+pub struct Nodes<'b>(List<'b, Input<'b>, Node>);
 
 impl<'b> Nodes<'b> {
     /// Returns the value of the whole text.
     pub fn root(&self) -> Item<'b> {
-        Item { all: *self, index: 0 }
+        Item(Entry { list: self.0, index: 0 })
     }
 
     /// Returns all nodes, in the order of the text.
     pub fn nodes(&self) -> &'b [Node] {
-        self.nodes
+        self.0.nodes
     }
 }
 
 /// The values of a JSON text, as nodes in a buffer of its own.
 #[cfg(feature = "alloc")]
 #[derive(Clone, Debug)]
-pub struct OwnedNodes<'i> {
-    text: &'i str,
-    nodes: Vec<Node>,
-    max_depth: usize,
-}
+pub struct OwnedNodes<'i>(OwnedList<Input<'i>, Node>);
 
 #[cfg(feature = "alloc")]
 impl<'i> OwnedNodes<'i> {
@@ -51,21 +49,18 @@ impl<'i> OwnedNodes<'i> {
     /// # Ok::<(), pergidau::Error>(())
     /// ```
     pub fn parse(text: &'i str, max_depth: usize) -> Result<OwnedNodes<'i>, Error> {
-        let mut nodes = Vec::with_capacity(most_nodes(text));
-        // SAFETY: the nodes are those of a live vector.
-        let count = unsafe { write(text, max_depth, nodes.as_mut_ptr(), nodes.capacity()) }?;
-        // SAFETY: the first `count` nodes were written.
-        unsafe { nodes.set_len(count) };
-        // (many commas are in strings)
-        if count < nodes.capacity() / 4 {
-            nodes.shrink_to_fit();
-        }
-        Ok(OwnedNodes { text, nodes, max_depth })
+        // SAFETY: the nodes are those of a live vector, and `write` returns how many are written.
+        let found = unsafe {
+            OwnedList::written((text, max_depth), most_nodes(text), |nodes, room| {
+                Ok((write(text, max_depth, nodes, room)?, ()))
+            })
+        };
+        found.map(|(nodes, ())| OwnedNodes(nodes))
     }
 
     /// Returns the nodes as a slice.
     pub fn nodes(&self) -> Nodes<'_> {
-        Nodes { text: self.text, nodes: &self.nodes, max_depth: self.max_depth }
+        Nodes(self.0.list())
     }
 
     /// Returns the value of the whole text.
@@ -78,10 +73,7 @@ impl<'i> OwnedNodes<'i> {
 ///
 /// The methods visit only the nodes of the elements or members themselves, whatever these contain.
 #[derive(Clone, Copy)]
-pub struct Item<'b> {
-    all: Nodes<'b>,
-    index: usize,
-}
+pub struct Item<'b>(Entry<'b, Input<'b>, Node>);
 
 impl fmt::Debug for Item<'_> {
     fn fmt(&self, f: &mut fmt::Formatter<'_>) -> fmt::Result {
@@ -90,13 +82,9 @@ impl fmt::Debug for Item<'_> {
 }
 
 impl<'b> Item<'b> {
-    fn node(&self) -> &'b Node {
-        &self.all.nodes[self.index]
-    }
-
     /// Returns the type of the value.
     pub fn kind(&self) -> Kind {
-        match self.node().kind {
+        match self.0.node().kind {
             exports::JSON_NULL => Kind::Null,
             exports::JSON_FALSE => Kind::False,
             exports::JSON_TRUE => Kind::True,
@@ -112,30 +100,29 @@ impl<'b> Item<'b> {
     /// Returns its text as written: a string with its quotes and escapes, an array or an object with
     /// its brackets.
     pub fn text(&self) -> &'b str {
-        let node = self.node();
-        &self.all.text[node.start..node.end]
+        let node = self.0.node();
+        &self.0.list.input.0[node.start..node.end]
     }
 
     /// Returns the value without its nodes, for conversions of numbers and strings.
     pub fn value(&self) -> Value<'b> {
-        Value { kind: self.kind(), text: self.text(), max_depth: self.all.max_depth }
+        Value { kind: self.kind(), text: self.text(), max_depth: self.0.list.input.1 }
     }
 
-    fn inside(&self, kind: Kind) -> Children<'b> {
-        let end = if self.kind() == kind { self.node().next } else { 0 };
-        Children { all: self.all, index: self.index + 1, end }
+    fn children(&self, kind: Kind) -> Children<'b> {
+        self.0.inside(self.kind() == kind)
     }
 
     /// Returns the elements of an array, in order. The iterator is empty if the value is not an
     /// array.
     pub fn elements(&self) -> ItemElements<'b> {
-        ItemElements(self.inside(Kind::Array))
+        ItemElements(self.children(Kind::Array))
     }
 
     /// Returns the members of an object, in order, including repeated ones: the name as written
     /// between its quotes, and the value. The iterator is empty if the value is not an object.
     pub fn members(&self) -> ItemMembers<'b> {
-        ItemMembers(self.inside(Kind::Object))
+        ItemMembers(self.children(Kind::Object))
     }
 
     /// Returns the element of an array at this index, from 0 on. Returns `None` if there is none, or
@@ -157,16 +144,16 @@ impl<'b> Item<'b> {
     /// # Ok::<(), pergidau::Error>(())
     /// ```
     pub fn get(&self, name: &str) -> Option<Item<'b>> {
-        let mut members = self.inside(Kind::Object);
-        while let Some((written, value)) = members.member() {
+        let mut members = self.children(Kind::Object);
+        while let Some((written, value)) = member(&mut members) {
             let text = written.text();
             if text.contains('\\') {
                 let object = self.text();
-                let left = after_name(object, self.all.max_depth, name, false)?;
-                let end = self.node().start + object.len() - left.len();
-                let mut members = self.inside(Kind::Object);
-                return core::iter::from_fn(|| members.member())
-                    .find(|(written, _)| written.node().end == end)
+                let left = after_name(object, self.0.list.input.1, name, false)?;
+                let end = self.0.node().start + object.len() - left.len();
+                let mut members = self.children(Kind::Object);
+                return core::iter::from_fn(|| member(&mut members))
+                    .find(|(written, _)| written.0.node().end == end)
                     .map(|(_, value)| value);
             }
             if &text[1..text.len() - 1] == name {
@@ -177,27 +164,9 @@ impl<'b> Item<'b> {
     }
 }
 
-/// The nodes in an array or an object, without those in them.
-#[derive(Clone, Copy, Debug)]
-struct Children<'b> {
-    all: Nodes<'b>,
-    index: usize,
-    end: usize,
-}
-
-impl<'b> Children<'b> {
-    fn next(&mut self) -> Option<Item<'b>> {
-        if self.index >= self.end {
-            return None;
-        }
-        let item = Item { all: self.all, index: self.index };
-        self.index = item.node().next;
-        Some(item)
-    }
-
-    fn member(&mut self) -> Option<(Item<'b>, Item<'b>)> {
-        Some((self.next()?, self.next()?))
-    }
+/// Returns the next name with its value.
+fn member<'b>(children: &mut Children<'b>) -> Option<(Item<'b>, Item<'b>)> {
+    Some((Item(children.next()?), Item(children.next()?)))
 }
 
 /// The elements of an array.
@@ -208,7 +177,7 @@ impl<'b> Iterator for ItemElements<'b> {
     type Item = Item<'b>;
 
     fn next(&mut self) -> Option<Item<'b>> {
-        self.0.next()
+        self.0.next().map(Item)
     }
 }
 
@@ -220,7 +189,7 @@ impl<'b> Iterator for ItemMembers<'b> {
     type Item = (&'b str, Item<'b>);
 
     fn next(&mut self) -> Option<Self::Item> {
-        let (name, value) = self.0.member()?;
+        let (name, value) = member(&mut self.0)?;
         let name = name.text();
         Some((&name[1..name.len() - 1], value))
     }
@@ -252,7 +221,7 @@ pub fn nodes<'b>(
 ) -> Result<Nodes<'b>, Error> {
     // SAFETY: the nodes are those of a live borrow.
     let count = unsafe { write(text, max_depth, nodes.as_mut_ptr(), nodes.len()) }?;
-    Ok(Nodes { text, nodes: &nodes[..count], max_depth })
+    Ok(Nodes(List { input: (text, max_depth), nodes: &nodes[..count] }))
 }
 
 /// Returns a number of nodes that is enough for a valid text. Each node except the first has one of
@@ -268,12 +237,12 @@ fn most_nodes(text: &str) -> usize {
     count.min(text.len() / 2 + 1)
 }
 
-/// Writes the nodes, and returns their number. `nodes` must be valid for writes of `length` nodes.
+/// Writes the nodes, and returns their number. `nodes` must be valid for writes of `room` nodes.
 unsafe fn write(
     text: &str,
     max_depth: usize,
     nodes: *mut Node,
-    length: usize,
+    room: usize,
 ) -> Result<usize, Error> {
     let mut count = 0;
     // SAFETY: the pointers are those of live borrows, or of nodes of the caller, and the text is only
@@ -281,7 +250,7 @@ unsafe fn write(
     // thread's guard page ends the program.
     let code = unsafe {
         exports::exported_json_nodes(
-            text.as_ptr(), text.len(), max_depth, nodes, length, &mut count,
+            text.as_ptr(), text.len(), max_depth, nodes, room, &mut count,
         )
     };
     match code {

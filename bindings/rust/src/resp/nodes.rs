@@ -3,39 +3,35 @@ pub use crate::exports::RespNode as Node;
 
 use super::{error, made, Elements, Protocol, Reply};
 use crate::exports;
-use crate::{Error, RequiredSize};
 #[cfg(feature = "alloc")]
-use alloc::{vec, vec::Vec};
+use crate::nodes::OwnedList;
+use crate::nodes::{Entry, Inside, List};
+use crate::{Error, RequiredSize};
 use core::fmt;
+
+/// The bytes from the start of a reply on, and the version of its protocol.
+type Input<'i> = (&'i [u8], Protocol);
 
 /// The replies in a reply, as nodes in a buffer.
 #[derive(Clone, Copy, Debug)]
-pub struct Nodes<'b> {
-    bytes: &'b [u8],
-    nodes: &'b [Node],
-    protocol: Protocol,
-}
+pub struct Nodes<'b>(List<'b, Input<'b>, Node>);
 
 impl<'b> Nodes<'b> {
     /// Returns the whole reply.
     pub fn root(&self) -> Item<'b> {
-        Item { all: *self, index: 0 }
+        Item(Entry { list: self.0, index: 0 })
     }
 
     /// Returns all nodes, in the order of the bytes.
     pub fn nodes(&self) -> &'b [Node] {
-        self.nodes
+        self.0.nodes
     }
 }
 
 /// The replies in a reply, as nodes in a buffer of its own.
 #[cfg(feature = "alloc")]
 #[derive(Clone, Debug)]
-pub struct OwnedNodes<'i> {
-    bytes: &'i [u8],
-    nodes: Vec<Node>,
-    protocol: Protocol,
-}
+pub struct OwnedNodes<'i>(OwnedList<Input<'i>, Node>);
 
 #[cfg(feature = "alloc")]
 impl<'i> OwnedNodes<'i> {
@@ -54,22 +50,19 @@ impl<'i> OwnedNodes<'i> {
         protocol: Protocol,
         max_depth: usize,
     ) -> Result<(OwnedNodes<'i>, &'i [u8]), Error> {
-        let mut nodes = vec![Node::default(); bytes.len().min(1 << 16) / 16 + 4];
-        let (count, length) = loop {
-            match write(bytes, protocol, max_depth, &mut nodes) {
-                Err(Error::BufferTooSmall(required)) => {
-                    nodes.resize(required.entries.max(nodes.len()), Node::default());
-                }
-                found => break found?,
-            }
+        let room = bytes.len().min(1 << 16) / 16 + 4;
+        // SAFETY: the nodes are those of a live vector, and `write` returns how many are written.
+        let found = unsafe {
+            OwnedList::written((bytes, protocol), room, |nodes, room| {
+                write(bytes, protocol, max_depth, nodes, room)
+            })
         };
-        nodes.truncate(count);
-        Ok((OwnedNodes { bytes, nodes, protocol }, &bytes[length..]))
+        found.map(|(nodes, length)| (OwnedNodes(nodes), &bytes[length..]))
     }
 
     /// Returns the nodes as a slice.
     pub fn nodes(&self) -> Nodes<'_> {
-        Nodes { bytes: self.bytes, nodes: &self.nodes, protocol: self.protocol }
+        Nodes(self.0.list())
     }
 
     /// Returns the whole reply.
@@ -82,10 +75,7 @@ impl<'i> OwnedNodes<'i> {
 ///
 /// The methods visit only the nodes of the elements themselves, whatever these contain.
 #[derive(Clone, Copy)]
-pub struct Item<'b> {
-    all: Nodes<'b>,
-    index: usize,
-}
+pub struct Item<'b>(Entry<'b, Input<'b>, Node>);
 
 impl fmt::Debug for Item<'_> {
     fn fmt(&self, f: &mut fmt::Formatter<'_>) -> fmt::Result {
@@ -94,15 +84,11 @@ impl fmt::Debug for Item<'_> {
 }
 
 impl<'b> Item<'b> {
-    fn node(&self) -> &'b Node {
-        &self.all.nodes[self.index]
-    }
-
     /// Returns the reply. The iterator of an aggregate parses its elements again; those of
     /// [`elements`](Item::elements) are not parsed again.
     pub fn reply(&self) -> Reply<'b> {
-        let (node, protocol) = (self.node(), self.all.protocol);
-        let inside = &self.all.bytes[node.start..node.end];
+        let (node, (bytes, protocol)) = (self.0.node(), self.0.list.input);
+        let inside = &bytes[node.start..node.end];
         let elements = Elements { left: inside, count: node.elements, protocol };
         made(node.kind, node.number, inside, elements).unwrap_or(Reply::Null)
     }
@@ -110,7 +96,7 @@ impl<'b> Item<'b> {
     /// Returns the elements of an aggregate, in order: those of a map are its keys, each followed by
     /// its value. The iterator is empty if the reply is not an aggregate.
     pub fn elements(&self) -> ItemElements<'b> {
-        ItemElements { all: self.all, index: self.index + 1, count: self.node().elements }
+        ItemElements { inside: self.0.inside(true), count: self.0.node().elements }
     }
 
     /// Returns the element of an aggregate at this index, from 0 on. Returns `None` if there is none,
@@ -123,8 +109,7 @@ impl<'b> Item<'b> {
 /// The elements of an aggregate.
 #[derive(Clone, Copy, Debug)]
 pub struct ItemElements<'b> {
-    all: Nodes<'b>,
-    index: usize,
+    inside: Inside<'b, Input<'b>, Node>,
     count: usize,
 }
 
@@ -133,9 +118,7 @@ impl<'b> Iterator for ItemElements<'b> {
 
     fn next(&mut self) -> Option<Item<'b>> {
         self.count = self.count.checked_sub(1)?;
-        let item = Item { all: self.all, index: self.index };
-        self.index = item.node().next;
-        Some(item)
+        self.inside.next().map(Item)
     }
 
     fn size_hint(&self) -> (usize, Option<usize>) {
@@ -171,25 +154,30 @@ pub fn nodes<'i: 'b, 'b>(
     max_depth: usize,
     nodes: &'b mut [Node],
 ) -> Result<(Nodes<'b>, &'i [u8]), Error> {
-    let (count, length) = write(bytes, protocol, max_depth, nodes)?;
-    Ok((Nodes { bytes, nodes: &nodes[..count], protocol }, &bytes[length..]))
+    // SAFETY: the nodes are those of a live borrow.
+    let (count, length) =
+        unsafe { write(bytes, protocol, max_depth, nodes.as_mut_ptr(), nodes.len()) }?;
+    let list = List { input: (bytes, protocol), nodes: &nodes[..count] };
+    Ok((Nodes(list), &bytes[length..]))
 }
 
-/// Writes the nodes, and returns their number and the length of the reply.
-fn write(
+/// Writes the nodes, and returns their number and the length of the reply. `nodes` must be valid for
+/// writes of `room` nodes.
+unsafe fn write(
     bytes: &[u8],
     protocol: Protocol,
     max_depth: usize,
-    nodes: &mut [Node],
+    nodes: *mut Node,
+    room: usize,
 ) -> Result<(usize, usize), Error> {
     let mut out = exports::RespNodesSize::default();
-    let (room, entries, version) = (nodes.as_mut_ptr(), nodes.len(), protocol.number());
-    // SAFETY: the pointers are those of live borrows, and the bytes are only read. The call takes up to
-    // 89 KiB of stack at `MAX_DEPTH` (measured); where there is less, the thread's guard page ends the
-    // program.
+    let version = protocol.number();
+    // SAFETY: the pointers are those of live borrows, or of nodes of the caller, and the bytes are only
+    // read. The call takes up to 89 KiB of stack at `MAX_DEPTH` (measured); where there is less, the
+    // thread's guard page ends the program.
     let code = unsafe {
         exports::exported_resp_nodes(
-            bytes.as_ptr(), bytes.len(), version, max_depth, room, entries, &mut out,
+            bytes.as_ptr(), bytes.len(), version, max_depth, nodes, room, &mut out,
         )
     };
     match code {
