@@ -1,6 +1,6 @@
 /* JSON readers with C++ libraries: rapidjson, whose headers are compiled here, and simdjson, which
  * uses the vector instructions of the processor. The kinds, numbered as in pergidau.h from 1 on, and
- * depths of values are compared, but not their texts. */
+ * depths of values are compared, but not their texts; of decoded values the strings and numbers. */
 #define RAPIDJSON_SSE42
 #include <rapidjson/document.h>
 #include <rapidjson/reader.h>
@@ -99,11 +99,95 @@ template <typename Value> void count_on_demand(Value &&value, uint64_t depth, ou
     out.sum += kind * depth;
 }
 
+void decode(const rapidjson::Value &value, outcome &out)
+{
+    if (value.IsString()) {
+        add_text(out, {value.GetString(), value.GetStringLength()});
+    } else if (value.IsInt64()) {
+        add(out, (uint64_t)value.GetInt64());
+    } else if (value.IsNumber()) {
+        add_double(out, value.GetDouble());
+    } else if (value.IsArray()) {
+        for (const auto &it : value.GetArray()) {
+            decode(it, out);
+        }
+    } else if (value.IsObject()) {
+        for (const auto &it : value.GetObject()) {
+            decode(it.value, out);
+        }
+    }
+}
+
+void decode(simdjson::dom::element value, outcome &out)
+{
+    using simdjson::dom::element_type;
+    switch (value.type()) {
+    case element_type::STRING: add_text(out, std::string_view(value)); break;
+    case element_type::INT64: add(out, (uint64_t)int64_t(value)); break;
+    case element_type::UINT64:
+    case element_type::DOUBLE: add_double(out, double(value)); break;
+    case element_type::ARRAY:
+        for (auto it : simdjson::dom::array(value)) {
+            decode(it, out);
+        }
+        break;
+    case element_type::OBJECT:
+        for (auto it : simdjson::dom::object(value)) {
+            decode(it.value, out);
+        }
+        break;
+    default: break;
+    }
+}
+
+/* Decodes a document or a value in it, with the on-demand parser. Throws if the value is invalid. */
+template <typename Value> void decode_on_demand(Value &&value, outcome &out)
+{
+    using simdjson::ondemand::json_type;
+    switch (json_type(value.type())) {
+    case json_type::null: (void)bool(value.is_null()); break;
+    case json_type::boolean: (void)bool(value.get_bool()); break;
+    case json_type::number: {
+        const simdjson::ondemand::number number = value.get_number();
+        if (number.is_int64()) {
+            add(out, (uint64_t)number.get_int64());
+        } else {
+            add_double(out, number.as_double());
+        }
+        break;
+    }
+    case json_type::string: add_text(out, std::string_view(value.get_string())); break;
+    case json_type::array:
+        for (auto it : simdjson::ondemand::array(value.get_array())) {
+            decode_on_demand(it.value(), out);
+        }
+        break;
+    case json_type::object:
+        for (auto it : simdjson::ondemand::object(value.get_object())) {
+            decode_on_demand(it.value().value(), out);
+        }
+        break;
+    }
+}
+
 /* The parser and its buffers are reused, as simdjson's documentation recommends. */
 simdjson::dom::parser &kept()
 {
     static simdjson::dom::parser parser;
     return parser;
+}
+
+/* Visits a document with the on-demand parser; there is no result if it is invalid. */
+template <typename Visit> void on_demand(const char *text, size_t length, outcome &out, Visit visit)
+{
+    static simdjson::ondemand::parser parser;
+    try {
+        simdjson::padded_string_view view(text, length, length + simdjson::SIMDJSON_PADDING);
+        simdjson::ondemand::document document = parser.iterate(view);
+        visit(document, out);
+    } catch (const simdjson::simdjson_error &) {
+        out = outcome{0, 0};
+    }
 }
 
 } // namespace
@@ -128,6 +212,15 @@ PEER(values_by_rapidjson)
     }
 }
 
+PEER(decoded_by_rapidjson)
+{
+    (void)length;
+    rapidjson::Document document;
+    if (!document.Parse(text).HasParseError()) {
+        decode(document, *out);
+    }
+}
+
 PEER(check_by_simdjson)
 {
     out->count = kept().parse(text, length, false).error() == simdjson::SUCCESS;
@@ -141,15 +234,21 @@ PEER(values_by_simdjson)
     }
 }
 
+PEER(decoded_by_simdjson)
+{
+    simdjson::dom::element value;
+    if (kept().parse(text, length, false).get(value) == simdjson::SUCCESS) {
+        decode(value, *out);
+    }
+}
+
 PEER(values_on_demand_by_simdjson)
 {
-    static simdjson::ondemand::parser parser;
-    try {
-        simdjson::padded_string_view view(text, length, length + simdjson::SIMDJSON_PADDING);
-        simdjson::ondemand::document document = parser.iterate(view);
-        count_on_demand(document, 1, *out);
-    } catch (const simdjson::simdjson_error &) {
-        *out = outcome{0, 0};
-    }
+    on_demand(text, length, *out, [](auto &document, outcome &out) { count_on_demand(document, 1, out); });
+}
+
+PEER(decoded_on_demand_by_simdjson)
+{
+    on_demand(text, length, *out, [](auto &document, outcome &out) { decode_on_demand(document, out); });
 }
 }

@@ -1,9 +1,16 @@
 //! JSON readers. A check counts 1 for a valid text. The other readers count each value; the sum is of
-//! the kinds, numbered as in `pergidau.h` from 1 on, multiplied by the depths of the values.
+//! the kinds, numbered as in `pergidau.h` from 1 on, multiplied by the depths of the values. Those that
+//! decode count strings and numbers.
 use crate::text::{Outcome, Text};
 use pergidau::json::{self, Item, Kind, OwnedNodes, Step, Value};
+use std::cell::RefCell;
 
 const LEVELS: usize = 16;
+
+thread_local! {
+    /// A buffer for decoded strings, which callers reuse.
+    static ROOM: RefCell<Vec<u8>> = RefCell::new(vec![0; 1 << 16]);
+}
 
 pub fn check(text: &Text) -> Outcome {
     Outcome { count: json::check(text.bytes(), LEVELS).is_ok().into(), sum: 0 }
@@ -108,6 +115,71 @@ pub fn values_by_serde(text: &Text) -> Outcome {
     let mut out = Outcome::default();
     if let Ok(value) = serde_json::from_slice(text.bytes()) {
         count_of_serde(&value, 1, &mut out);
+    }
+    out
+}
+
+fn decode(value: Value, buffer: &mut [u8], out: &mut Outcome) {
+    match value.kind() {
+        Kind::String => out.add_text(value.as_str_into(buffer).unwrap().unwrap()),
+        Kind::Number => match value.as_i64() {
+            Some(number) => out.add(number as usize),
+            None => out.add_double(value.as_f64().unwrap()),
+        },
+        _ => (),
+    }
+}
+
+pub fn decoded(text: &Text) -> Outcome {
+    let mut out = Outcome::default();
+    let Ok(text) = std::str::from_utf8(text.bytes()) else {
+        return out;
+    };
+    ROOM.with_borrow_mut(|buffer| {
+        for step in json::steps(text, LEVELS).into_iter().flatten() {
+            if let Step::Value(value) = step {
+                decode(value, buffer, &mut out);
+            }
+        }
+    });
+    out
+}
+
+fn decode_nodes(item: Item, buffer: &mut [u8], out: &mut Outcome) {
+    match item.kind() {
+        Kind::Array => item.elements().for_each(|it| decode_nodes(it, buffer, out)),
+        Kind::Object => item.members().for_each(|(_, it)| decode_nodes(it, buffer, out)),
+        _ => decode(item.value(), buffer, out),
+    }
+}
+
+pub fn decoded_by_nodes(text: &Text) -> Outcome {
+    let mut out = Outcome::default();
+    if let Ok(text) = std::str::from_utf8(text.bytes()) {
+        if let Ok(nodes) = OwnedNodes::parse(text, LEVELS) {
+            ROOM.with_borrow_mut(|buffer| decode_nodes(nodes.root(), buffer, &mut out));
+        }
+    }
+    out
+}
+
+fn decode_of_serde(value: &serde_json::Value, out: &mut Outcome) {
+    match value {
+        serde_json::Value::Number(number) => match number.as_i64() {
+            Some(number) => out.add(number as usize),
+            None => out.add_double(number.as_f64().unwrap()),
+        },
+        serde_json::Value::String(text) => out.add_text(text),
+        serde_json::Value::Array(list) => list.iter().for_each(|it| decode_of_serde(it, out)),
+        serde_json::Value::Object(map) => map.values().for_each(|it| decode_of_serde(it, out)),
+        _ => (),
+    }
+}
+
+pub fn decoded_by_serde(text: &Text) -> Outcome {
+    let mut out = Outcome::default();
+    if let Ok(value) = serde_json::from_slice(text.bytes()) {
+        decode_of_serde(&value, &mut out);
     }
     out
 }

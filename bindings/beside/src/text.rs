@@ -46,4 +46,16 @@ impl Outcome {
         self.count += 1;
         self.sum = self.sum.wrapping_add(sum as u64);
     }
+
+    /// Counts a decoded string, and adds its length and its last byte.
+    pub fn add_text(&mut self, text: &str) {
+        let last = text.as_bytes().last().copied().unwrap_or(0);
+        self.add(text.len() << 8 | usize::from(last));
+    }
+
+    /// Counts a double, and adds the bits of the nearest `f32`, since some readers do not return the
+    /// nearest double.
+    pub fn add_double(&mut self, number: f64) {
+        self.add((number as f32).to_bits() as usize);
+    }
 }

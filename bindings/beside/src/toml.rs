@@ -1,5 +1,6 @@
 //! TOML readers. Each value is counted, tables and arrays too; the sum is of the kinds, numbered as in
-//! `pergidau.h` from 1 on, multiplied by the depths of the values.
+//! `pergidau.h` from 1 on, multiplied by the depths of the values. Those that decode count strings,
+//! numbers, dates and times.
 use crate::text::{Outcome, Text};
 use pergidau::toml::{self, Item, Node, Value};
 use std::cell::RefCell;
@@ -33,17 +34,49 @@ fn count(item: Item, depth: usize, out: &mut Outcome) {
     item.children().for_each(|it| count(it, depth + 1, out));
 }
 
-pub fn document(text: &Text) -> Outcome {
+/// Visits the root of a document, if the text is one.
+fn visited(text: &Text, visit: impl Fn(Item, &mut Outcome)) -> Outcome {
     let mut out = Outcome::default();
     let Ok(text) = std::str::from_utf8(text.bytes()) else {
         return out;
     };
     ROOM.with_borrow_mut(|(names, nodes)| {
         if let Ok(document) = toml::parse(text, LEVELS, names, nodes) {
-            count(document.root(), 1, &mut out);
+            visit(document.root(), &mut out);
         }
     });
     out
+}
+
+pub fn document(text: &Text) -> Outcome {
+    visited(text, |root, out| count(root, 1, out))
+}
+
+fn add_date(year: u16, month: u8, day: u8, out: &mut Outcome) {
+    out.add(usize::from(year) << 9 | usize::from(month) << 5 | usize::from(day));
+}
+
+fn add_time(hour: u8, minute: u8, second: u8, out: &mut Outcome) {
+    out.add(usize::from(hour) << 12 | usize::from(minute) << 6 | usize::from(second));
+}
+
+fn decode(item: Item, out: &mut Outcome) {
+    match item.value() {
+        Value::String(text) => out.add_text(text),
+        Value::Integer(number) => out.add(number as usize),
+        Value::Float(_) => out.add_double(item.as_f64().unwrap()),
+        Value::OffsetDateTime(date, time, _) | Value::LocalDateTime(date, time) => {
+            add_date(date.year, date.month, date.day, out);
+            add_time(time.hour, time.minute, time.second, out);
+        }
+        Value::LocalDate(date) => add_date(date.year, date.month, date.day, out),
+        Value::LocalTime(time) => add_time(time.hour, time.minute, time.second, out),
+        _ => item.children().for_each(|it| decode(it, out)),
+    }
+}
+
+pub fn decoded(text: &Text) -> Outcome {
+    visited(text, decode)
 }
 
 fn number_of_time(it: &::toml::value::Datetime) -> usize {
@@ -76,6 +109,29 @@ pub fn document_by_toml(text: &Text) -> Outcome {
     let mut out = Outcome::default();
     if let Ok(value) = ::toml::from_slice(text.bytes()) {
         count_of_toml(&value, 1, &mut out);
+    }
+    out
+}
+
+fn decode_of_toml(value: &::toml::Value, out: &mut Outcome) {
+    match value {
+        ::toml::Value::Table(table) => table.values().for_each(|it| decode_of_toml(it, out)),
+        ::toml::Value::Array(list) => list.iter().for_each(|it| decode_of_toml(it, out)),
+        ::toml::Value::String(text) => out.add_text(text),
+        ::toml::Value::Integer(number) => out.add(*number as usize),
+        ::toml::Value::Float(number) => out.add_double(*number),
+        ::toml::Value::Boolean(_) => (),
+        ::toml::Value::Datetime(it) => {
+            it.date.iter().for_each(|it| add_date(it.year, it.month, it.day, out));
+            it.time.iter().for_each(|it| add_time(it.hour, it.minute, it.second, out));
+        }
+    }
+}
+
+pub fn decoded_by_toml(text: &Text) -> Outcome {
+    let mut out = Outcome::default();
+    if let Ok(value) = ::toml::from_slice(text.bytes()) {
+        decode_of_toml(&value, &mut out);
     }
     out
 }

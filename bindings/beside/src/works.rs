@@ -45,6 +45,14 @@ const VALUES: &[(&str, Reader)] = &[
     ("simdjson, `dom`", peers::values_by_simdjson),
     ("simdjson, `ondemand`", peers::values_on_demand_by_simdjson),
 ];
+const DECODED: &[(&str, Reader)] = &[
+    ("this library, by steps", json::decoded),
+    ("this library, by nodes", json::decoded_by_nodes),
+    ("serde_json, `Value`", json::decoded_by_serde),
+    ("rapidjson, `Document`", peers::decoded_by_rapidjson),
+    ("simdjson, `dom`", peers::decoded_by_simdjson),
+    ("simdjson, `ondemand`", peers::decoded_on_demand_by_simdjson),
+];
 const HEADS: &[(&str, Reader)] = &[
     ("this library", http::heads),
     ("httparse", http::heads_by_httparse),
@@ -83,6 +91,11 @@ const DOCUMENTS: &[(&str, Reader)] = &[
     ("toml", toml::document_by_toml),
     ("toml++", peers::document_by_tomlplusplus),
 ];
+const DECODED_DOCUMENTS: &[(&str, Reader)] = &[
+    ("this library", toml::decoded),
+    ("toml", toml::decoded_by_toml),
+    ("toml++", peers::decoded_by_tomlplusplus),
+];
 const PAIRS: &[(&str, Reader)] = &[("this library", ini::pairs), ("inih", peers::pairs_by_inih)];
 
 pub const WORKS: &[Work] = &[
@@ -96,6 +109,10 @@ pub const WORKS: &[Work] = &[
     whole("check of a catalog", "catalog.json", CHECKS),
     whole("all values of a catalog", "catalog.json", VALUES),
     whole("check of strings of 64 bytes", "lines.json", CHECKS),
+    whole("decoded values of a JSON text", "items.json", DECODED),
+    whole("decoded values of one that is strings for the most part", "strings.json", DECODED),
+    whole("decoded values of statuses", "statuses.json", DECODED),
+    whole("decoded values of coordinates", "coordinates.json", DECODED),
     work("one head of a request, 1000 times", "heads.http", HEADS),
     work("10,000 heads of a log", "log.http", HEADS),
     work("the same in pieces of 512 bytes", "log.http", HEADS_IN_PIECES),
@@ -110,4 +127,5 @@ pub const WORKS: &[Work] = &[
     work("the same in pieces of 1,460 bytes", "array.resp", REPLIES_IN_PIECES),
     work("a document of INI", "settings.ini", PAIRS),
     work("a document of TOML", "settings.toml", DOCUMENTS),
+    work("decoded values of a document of TOML", "settings.toml", DECODED_DOCUMENTS),
 ];

@@ -63,6 +63,20 @@ impl<'i> Value<'i> {
         fits(code).then_some(out)
     }
 
+    /// Returns the nearest double of a number; of two, the one whose last bit is 0. `-0` gives -0.0,
+    /// and a number that is too large gives an infinity. Returns `None` if the value is not a number.
+    /// The standard library converts the text, so this is not proved.
+    ///
+    /// ```
+    /// let mut list = pergidau::json::parse("[2.50, 1e400]", 1)?.elements();
+    /// assert_eq!(list.next().unwrap().as_f64(), Some(2.5));
+    /// assert_eq!(list.next().unwrap().as_f64(), Some(f64::INFINITY));
+    /// # Ok::<(), pergidau::Error>(())
+    /// ```
+    pub fn as_f64(&self) -> Option<f64> {
+        if self.kind == Kind::Number { self.text.parse().ok() } else { None }
+    }
+
     fn number(&self) -> Option<&'i [u8]> {
         (self.kind == Kind::Number).then_some(self.text.as_bytes())
     }
