@@ -42,8 +42,8 @@ pub fn no_value_ends_elsewhere<A: Allocator>()
         → IsNext level (bytes ++ more) (Some v) other → other ≡ rest ++ more }
 {}
 
-/// All that the scanner finds is a value: if it stops before `rest`, the bytes before are whitespace
-/// and the UTF-8 of a value by RFC 8259, which ends there.
+/// All that the scanner finds is a value: if it stops before `rest`, the bytes before are
+/// whitespace and the UTF-8 of a value by RFC 8259, which ends there.
 ///
 /// An allocator makes the value, and its strings and lists have fewer than 2⁶³ bytes or items, as a
 /// slice has.
