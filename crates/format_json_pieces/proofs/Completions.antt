@@ -76,7 +76,6 @@ DigitsTail = Then IsCharacter IsStringTail
 
 -- `CompletesPart part text`: `text` is the rest of a string in which this part is to come.
 abbrev pub CompletesPart : Part → List ℕ → Type 0
-CompletesPart parts.Plain text = IsStringTail text
 CompletesPart parts.Escape text = Then IsEscape IsStringTail text
 CompletesPart parts.Unit text = DigitsTail text
 CompletesPart parts.BehindD text = (d : ℕ) → IsD d → DigitsTail (d ∷ text)
@@ -89,13 +88,7 @@ CompletesPart parts.Backslash text = LowEscape text
 CompletesPart parts.LetterU text = Then (IsByte IsU) LowTail text
 CompletesPart parts.LowD text = LowTail text
 CompletesPart parts.LowSecond text = (d : ℕ) → IsD d → LowTail (d ∷ text)
-CompletesPart parts.TailOne text = IsStringTail text
-CompletesPart parts.TailTwo text = IsStringTail text
-CompletesPart parts.TailThree text = IsStringTail text
-CompletesPart parts.TailLong text = IsStringTail text
-CompletesPart parts.TailScalar text = IsStringTail text
-CompletesPart parts.TailLonger text = IsStringTail text
-CompletesPart parts.TailLast text = IsStringTail text
+CompletesPart _ text = IsStringTail text
 
 -- ---- numbers and words
 

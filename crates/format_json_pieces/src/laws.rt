@@ -63,8 +63,8 @@ pub fn what_is_found_is_a_value<A: Allocator>()
 {}
 
 /// Bytes are accepted by the scanner if and only if they are a prefix of bytes that start with a
-/// value, perhaps after whitespace. So the bytes before an error can continue to a value (`there`),
-/// and with the byte there they cannot, regardless of what follows (`back`).
+/// value, perhaps after whitespace. So the bytes before an error can continue to a value
+/// (`there`), and with the byte there they cannot, regardless of what follows (`back`).
 ///
 /// As in [`what_is_found_is_a_value`], an allocator makes the value. So the bytes of `there` are
 /// fewer than 2⁶¹.

@@ -130,9 +130,9 @@ fn end_of(bytes: &[u8]) -> Place
     }
 }
 
-/// The walk of [`first_place`] accepts bytes if and only if they are a prefix of a JSON text at the
-/// same level: bytes that it accepts have a continuation that is a text (`there`), and bytes
-/// that it rejects have none (`back`).
+/// Bytes are accepted by the walk of [`first_place`] if and only if they are a prefix of a JSON
+/// text at the same level: bytes that it accepts have a continuation that is a text (`there`), and
+/// bytes that it rejects have none (`back`).
 ///
 /// An allocator makes the value, and its strings and lists have fewer than 2⁶³ bytes or items, as a
 /// slice has. So the bytes of `there` are fewer than 2⁶¹.

@@ -84,13 +84,7 @@ after_by P kinds.Object held b gap comma closes invalid =
 abbrev pub Utf8Mode : Mode → List ℕ → Type 0
 Utf8Mode (modes.Name part) text = Utf8Part part text
 Utf8Mode (modes.Text part) text = Utf8Part part text
-Utf8Mode modes.First text = IsUtf8 text
-Utf8Mode modes.Item text = IsUtf8 text
-Utf8Mode modes.Colon text = IsUtf8 text
-Utf8Mode modes.Value text = IsUtf8 text
-Utf8Mode modes.After text = IsUtf8 text
-Utf8Mode (modes.Number figure) text = IsUtf8 text
-Utf8Mode (modes.Word letters) text = IsUtf8 text
+Utf8Mode _ text = IsUtf8 text
 
 gap_low : (b : ℕ) → is_gap b ≡ true → b < 128
 gap_low b e = grind (arith, nat_tests, e)
@@ -125,14 +119,10 @@ module _ (level b : ℕ) (text : List ℕ) where
         (λ x. absurd x)
 
     item_utf8 : (o : Option Bracket) → Case (item_step modes.Item o b)
-    item_utf8 None = value_utf8 modes.Item (λ x. x)
-    item_utf8 (Some kinds.Array) = value_utf8 modes.Item (λ x. x)
-    item_utf8 (Some kinds.Whole) = value_utf8 modes.Item (λ x. x)
     item_utf8 (Some kinds.Object) = name_utf8 modes.Item (λ x. x)
+    item_utf8 _ = value_utf8 modes.Item (λ x. x)
 
     first_utf8 : (o : Option Bracket) → Case (first_step o b)
-    first_utf8 None = value_utf8 modes.First (λ x. x)
-    first_utf8 (Some kinds.Whole) = value_utf8 modes.First (λ x. x)
     first_utf8 (Some kinds.Array) =
         if_by Case (b == 93) _ _
         (λ e x. low (grind (arith, nat_tests, e)) (after_utf8 (others_open held) x))
@@ -141,6 +131,7 @@ module _ (level b : ℕ) (text : List ℕ) where
         if_by Case (b == 125) _ _
         (λ e x. low (grind (arith, nat_tests, e)) (after_utf8 (others_open held) x))
         (λ e. name_utf8 modes.First (λ x. x))
+    first_utf8 _ = value_utf8 modes.First (λ x. x)
 
     behind_utf8 : (o : Option Bracket) → Case (behind_number o b)
     behind_utf8 None x = absurd x
@@ -158,13 +149,7 @@ module _ (level b : ℕ) (text : List ℕ) where
 
     figure_low : (figure next : Figure) → figure_behind figure b ≡ Some next → b < 128
     figure_low figures.Minus next e = grind (arith, nat_tests, e)
-    figure_low figures.Zero next e = grind (arith, nat_tests, e)
-    figure_low figures.Whole next e = grind (arith, nat_tests, e)
-    figure_low figures.Point next e = grind (arith, nat_tests, e)
-    figure_low figures.Fraction next e = grind (arith, nat_tests, e)
-    figure_low figures.Exponent next e = grind (arith, nat_tests, e)
-    figure_low figures.Sign next e = grind (arith, nat_tests, e)
-    figure_low figures.Power next e = grind (arith, nat_tests, e)
+    figure_low _ next e = grind (arith, nat_tests, e)
 
     word_utf8 : (letters : Letters) → Case (letters_step letters b)
     word_utf8 letters =
@@ -173,14 +158,7 @@ module _ (level b : ℕ) (text : List ℕ) where
       where
         letter_low : (letters : Letters) → b == expected letters ≡ true → b < 128
         letter_low words.Ull e = grind (arith, nat_tests, e)
-        letter_low words.Ll e = grind (arith, nat_tests, e)
-        letter_low words.L e = grind (arith, nat_tests, e)
-        letter_low words.Rue e = grind (arith, nat_tests, e)
-        letter_low words.Ue e = grind (arith, nat_tests, e)
-        letter_low words.E e = grind (arith, nat_tests, e)
-        letter_low words.Alse e = grind (arith, nat_tests, e)
-        letter_low words.Lse e = grind (arith, nat_tests, e)
-        letter_low words.Se e = grind (arith, nat_tests, e)
+        letter_low _ e = grind (arith, nat_tests, e)
 
         by : (next : Option Letters) → b < 128 → Case (word_step next)
         by None few x = low few (after_utf8 held x)
@@ -220,10 +198,7 @@ module _ (level : ℕ) (mode : Mode) (held : List Bracket) where
   abbrev pub IsFine : Step → Type 0
   IsFine steps.Ended = (held ≡ []) × Completes level mode held [] × Utf8Mode mode []
   IsFine steps.Closes = IsClosed held
-  IsFine steps.Invalid = ⊤
-  IsFine (steps.Goes m) = ⊤
-  IsFine (steps.Opens k) = ⊤
-  IsFine steps.Ends = ⊤
+  IsFine _ = ⊤
 
 module _ (level b : ℕ) where
   value_fine : (mode next : Mode) (held : List Bracket)
@@ -243,33 +218,28 @@ module _ (level b : ℕ) where
       after_by (IsFine level mode (k ∷ held)) k held b (λ e. tt) (λ few. tt) (λ few is. is) tt
 
   first_fine : (held : List Bracket) → IsFine level modes.First held (first_step (last_open held) b)
-  first_fine [] = value_fine modes.First modes.First []
-  first_fine (kinds.Whole ∷ held) = value_fine modes.First modes.First (kinds.Whole ∷ held)
   first_fine (kinds.Array ∷ held) =
       if_by (IsFine level modes.First (kinds.Array ∷ held)) (b == 93) _ _ (λ e. tt)
       (λ e. value_fine modes.First modes.First (kinds.Array ∷ held))
   first_fine (kinds.Object ∷ held) =
       if_by (IsFine level modes.First (kinds.Object ∷ held)) (b == 125) _ _ (λ e. tt)
       (λ e. name_fine modes.First modes.First (kinds.Object ∷ held))
+  first_fine held = value_fine modes.First modes.First held
 
   item_fine : (held : List Bracket)
       → IsFine level modes.Item held (item_step modes.Item (last_open held) b)
-  item_fine [] = value_fine modes.Item modes.Item []
-  item_fine (kinds.Whole ∷ held) = value_fine modes.Item modes.Item (kinds.Whole ∷ held)
-  item_fine (kinds.Array ∷ held) = value_fine modes.Item modes.Item (kinds.Array ∷ held)
   item_fine (kinds.Object ∷ held) = name_fine modes.Item modes.Item (kinds.Object ∷ held)
+  item_fine held = value_fine modes.Item modes.Item held
 
   text_fine : (mode : Mode) (held : List Bracket) (inner : Inner)
       → IsFine level mode held (within_text inner)
   text_fine mode held inners.Broken = tt
-  text_fine mode held inners.Quote = tt
-  text_fine mode held (inners.Part part) = tt
+  text_fine mode held _ = tt
 
   name_part_fine : (mode : Mode) (held : List Bracket) (inner : Inner)
       → IsFine level mode held (within_name inner)
   name_part_fine mode held inners.Broken = tt
-  name_part_fine mode held inners.Quote = tt
-  name_part_fine mode held (inners.Part part) = tt
+  name_part_fine mode held _ = tt
 
   word_fine : (mode : Mode) (held : List Bracket) (next : Option Letters)
       → IsFine level mode held (word_step next)

@@ -93,15 +93,12 @@ false_true e = true_is_false (sym e)
 
 -- A number may be complete.
 pub figure_done : (figure : Figure) → is_final figure ≡ true → CompletesFigure figure []
-figure_done figures.Minus e = absurd (false_true e)
 figure_done figures.Zero e = joined [] [] (inl refl) (inl refl) refl
 figure_done figures.Whole e =
     joined [] [] (All-nil IsDigit) (joined [] [] (inl refl) (inl refl) refl) refl
-figure_done figures.Point e = absurd (false_true e)
 figure_done figures.Fraction e = joined [] [] (All-nil IsDigit) (inl refl) refl
-figure_done figures.Exponent e = absurd (false_true e)
-figure_done figures.Sign e = absurd (false_true e)
 figure_done figures.Power e = All-nil IsDigit
+figure_done _ e = absurd (false_true e)
 
 -- A byte that does not continue a number is none that may.
 pub goes_not : (b : ℕ) → goes_on b ≡ false → ContinuesNumber b → ⊥

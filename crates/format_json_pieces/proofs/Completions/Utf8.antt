@@ -110,19 +110,7 @@ Utf8Part parts.TailLong text = Then (IsByte (Within 160 192)) OneMore text
 Utf8Part parts.TailScalar text = Then (IsByte (Within 128 160)) OneMore text
 Utf8Part parts.TailLonger text = Then (IsByte (Within 144 192)) TwoMore text
 Utf8Part parts.TailLast text = Then (IsByte (Within 128 144)) TwoMore text
-Utf8Part parts.Plain text = IsUtf8 text
-Utf8Part parts.Escape text = IsUtf8 text
-Utf8Part parts.Unit text = IsUtf8 text
-Utf8Part parts.BehindD text = IsUtf8 text
-Utf8Part parts.Three text = IsUtf8 text
-Utf8Part parts.Two text = IsUtf8 text
-Utf8Part parts.One text = IsUtf8 text
-Utf8Part parts.HighTwo text = IsUtf8 text
-Utf8Part parts.HighOne text = IsUtf8 text
-Utf8Part parts.Backslash text = IsUtf8 text
-Utf8Part parts.LetterU text = IsUtf8 text
-Utf8Part parts.LowD text = IsUtf8 text
-Utf8Part parts.LowSecond text = IsUtf8 text
+Utf8Part _ text = IsUtf8 text
 
 abbrev pub Utf8Inner : Inner → List ℕ → Type 0
 Utf8Inner inners.Broken text = ⊥

@@ -172,12 +172,6 @@ module _ (level b : ℕ) (text : List ℕ) where
 
   item_back : (held : List Bracket) → Leads held (item_step modes.Item (last_open held) b)
       → CompletesItem level held (b ∷ text)
-  item_back [] =
-      value_back modes.Item [] (CompletesItem level [] (b ∷ text)) (value_gap []) (value_first [])
-  item_back (kinds.Whole ∷ held) =
-      value_back modes.Item (kinds.Whole ∷ held)
-      (CompletesItem level (kinds.Whole ∷ held) (b ∷ text))
-      (value_gap (kinds.Whole ∷ held)) (value_first (kinds.Whole ∷ held))
   item_back (kinds.Array ∷ held) =
       value_back modes.Item (kinds.Array ∷ held)
       (CompletesItem level (kinds.Array ∷ held) (b ∷ text))
@@ -200,15 +194,12 @@ module _ (level b : ℕ) (text : List ℕ) where
       in_front_items : is_gap b ≡ true → (l : List ℕ) → IsItemsTail true V l
           → IsItemsTail true V (b ∷ l)
       in_front_items e l = in_front (b ∷ []) (items_gap V true b e)
+  item_back held =
+      value_back modes.Item held (CompletesItem level held (b ∷ text)) (value_gap held)
+      (value_first held)
 
   first_back : (held : List Bracket) → Leads held (first_step (last_open held) b)
       → CompletesFirst level held (b ∷ text)
-  first_back [] =
-      value_back modes.First [] (CompletesFirst level [] (b ∷ text)) (value_gap []) (value_first [])
-  first_back (kinds.Whole ∷ held) =
-      value_back modes.First (kinds.Whole ∷ held)
-      (CompletesFirst level (kinds.Whole ∷ held) (b ∷ text)) (value_gap (kinds.Whole ∷ held))
-      (value_first (kinds.Whole ∷ held))
   first_back (kinds.Array ∷ held) =
       if_by (λ s. Leads (kinds.Array ∷ held) s → Goal) (b == 93) _ _
       (λ e x. close_first false _ _ (grind (arith, nat_tests, e)) (after_value held x))
@@ -233,6 +224,9 @@ module _ (level b : ℕ) (text : List ℕ) where
 
       Goal : Type 0
       Goal = CompletesFirst level (kinds.Object ∷ held) (b ∷ text)
+  first_back held =
+      value_back modes.First held (CompletesFirst level held (b ∷ text)) (value_gap held)
+      (value_first held)
 
   after_back : (k : Bracket) (held : List Bracket) → Leads (k ∷ held) (after_step k b)
       → CompletesAfter level (k ∷ held) (b ∷ text)
