@@ -2048,8 +2048,8 @@ extern "C" {
     /// Checks a text as `exported_json_check` does, and reports the first error: its offset, line and
     /// column, and the input that is expected there.
     ///
-    /// The bytes before the offset can continue to a text. With the byte there, or the bytes there that
-    /// are not UTF-8, they cannot, for any continuation. Nothing is allocated for a text that is JSON;
+    /// The bytes before the offset can continue to a text. With the byte there they cannot, for any
+    /// continuation, unless the result is `INVALID_UTF8`. Nothing is allocated for a text that is JSON;
     /// for others, one byte for each open bracket.
     ///
     /// `DONE`: the text is a JSON text. Zeros are written.
