@@ -7,24 +7,26 @@ use Rattle.streams.specs.Kind.{Kind}
 use Rattle.winnow_expression.specs.Units.{units_left}
 use Rattle.winnow_expression.specs.Calls.{Open}
 use Rattle.parser_definitions.specs.Expression.{Call, call_at}
-use Rattle.winnow_expression.specs.Expression.{ExpressionRuns}
-use Rattle.winnow_expression.specs.Grammar.{Grammar, CallEnds, Closes, Infixes, Postfixes, Prefixes}
+use Rattle.winnow_expression.specs.Covers.Trees.{ExpressionRuns}
+use Rattle.winnow_expression.specs.Grammar.{CallEnds, Closes, Infixes, Postfixes, Prefixes}
 use Rattle.winnow_expression.specs.Grammar.{TurnEnds}
-use Rattle.winnow_expression.specs.Expression.{TreeRuns, call_ends, call_operand, call_prefix}
-use Rattle.winnow_expression.specs.Expression.{turn_ends, turn_postfix, turn_infix, resume_ends}
-use Rattle.winnow_expression.specs.Expression.{resume_goes}
+use Rattle.winnow_expression.specs.Covers.Trees.{TreeRuns, call_ends, call_operand, call_prefix}
+use Rattle.winnow_expression.specs.Covers.Trees.{turn_ends, turn_postfix, turn_infix, resume_ends}
+use Rattle.winnow_expression.specs.Covers.Trees.{resume_goes}
 use Rattle.winnow_expression.specs.Machine.{AllEnd}
 use Rattle.winnow_expression.specs.declared.combinator.places.First.TheVariants.{Operand}
 use Rattle.winnow_expression.proofs.Loop.{Continues, Resumed}
+use Rattle.winnow_expression.specs.Covers.Trees.{Made, expression_gives, steps}
+use Rattle.winnow_expression.specs.Covers.Trees.{expression_fails as tree_fails}
 
-resumed_failure : {S W T V F G H : Type 0} (g : Grammar S W T V F G H) (xs : List (Open V F H))
+resumed_failure : {S W T L V F G H : Type 0} (g : Made S W T L V F G H) (xs : List (Open V F H))
     (kind : Kind) (s : S × W) (i : Input T) → Resumed g xs (Err kind) s i (Err kind) s i
 resumed_failure g [] kind s i = (refl, refl, refl)
 resumed_failure g (x ∷ xs) kind s i = (
   Err kind,
   s,
   i,
-  resume_ends x (Err kind) (Err kind) s s i i (inl (kind, refl, refl, refl)) refl,
+  resume_ends g x (Err kind) (Err kind) s s i i (inl (kind, refl, refl, refl)) refl,
   resumed_failure g xs kind s i,
 )
 
@@ -33,9 +35,9 @@ abbrev pub of_all : {V : Type 0} → Answer V → Answer (V × Bool)
 of_all (Ok v) = Ok (v, true)
 of_all (Err kind) = Err kind
 
-resumed_all : {S W T V F G H : Type 0} (g : Grammar S W T V F G H) (xs : List (Open V F H))
+resumed_all : {S W T L V F G H : Type 0} (g : Made S W T L V F G H) (xs : List (Open V F H))
     (v : V) (s : S × W) (i j : Input T) (answer : Answer V)
-    → AllEnd g.folding xs v i answer j → Resumed g xs (Ok (v, true)) s i (of_all answer) s j
+    → AllEnd (steps g).folding xs v i answer j → Resumed g xs (Ok (v, true)) s i (of_all answer) s j
 resumed_all g [] v s i j answer (e, same) = (ap of_all e, refl, same)
 resumed_all g (x ∷ xs) v s i j answer (inl (kind, closes, e)) =
     let P : Answer _ → Type 0 = λ a. Resumed g (x ∷ xs) (Ok (v, true)) s i (of_all a) s j in
@@ -43,7 +45,7 @@ resumed_all g (x ∷ xs) v s i j answer (inl (kind, closes, e)) =
       Err kind,
       s,
       j,
-      resume_ends x (Ok (v, true)) (Err kind) s s i j
+      resume_ends g x (Ok (v, true)) (Err kind) s s i j
           (inr (inl (v, true, kind, refl, closes, refl))) refl,
       resumed_failure g xs kind s j,
     )
@@ -51,138 +53,155 @@ resumed_all g (x ∷ xs) v s i j answer (inr (w, m, closes, ended)) = (
   Ok (w, true),
   s,
   m,
-  resume_ends x (Ok (v, true)) (Ok (w, true)) s s i m (inr (inr (v, w, refl, closes, refl))) refl,
+  resume_ends g x (Ok (v, true)) (Ok (w, true)) s s i m (inr (inr (v, w, refl, closes, refl))) refl,
   resumed_all g xs w s m j answer ended,
 )
 
-pub leads_operand : {S W T V F G H : Type 0} (g : Grammar S W T V F G H) (whole call : Call)
+pub leads_operand : {S W T L V F G H : Type 0} (g : Made S W T L V F G H) (whole call : Call)
     (z : S × W) (o : Input T) (xs : List (Open V F H)) (v : V) (s : S × W) (t : S) (i j : Input T)
-    → Continues g whole z o call None xs s i → g.first s.0 i (Ok (Operand v)) t j
+    → Continues g whole z o call None xs s i → (steps g).first s.0 i (Ok (Operand v)) t j
     → Continues g whole z o call (Some v) xs (t, s.1) j
 leads_operand g whole call z o xs v s t i j known read = record {
   leads = λ b a u w m n runs resumed. known.leads b a u w m n
-      (call_operand call s u (t, s.1) i m j v b read refl runs) resumed;
+      (call_operand g call s u (t, s.1) i m j v b read refl runs) resumed;
 }
 
-pub leads_prefix : {S W T V F G H : Type 0} (g : Grammar S W T V F G H) (whole call : Call)
+pub leads_prefix : {S W T L V F G H : Type 0} (g : Made S W T L V F G H) (whole call : Call)
     (z : S × W) (o : Input T) (xs : List (Open V F H)) (x : Open V F H) (power : ℤ) (s : S × W)
     (t : S) (i j : Input T) → Continues g whole z o call None xs s i
-    → Prefixes g.folding.units g.first call s.0 i x power t j
-    → Continues g whole z o (call_at power (units_left g.folding.units j)) None (x ∷ xs) (t, s.1) j
+    → Prefixes (steps g).folding.units (steps g).first call s.0 i x power t j
+    → Continues g whole z o (call_at power (units_left (steps g).folding.units j)) None (x ∷ xs)
+    (t, s.1) j
 leads_prefix g whole call z o xs x power s t i j known read = record {
   leads = λ b a u w m n runs (c, v, l, resumes, resumed). known.leads c a v w l n
-      (call_prefix call s v (t, s.1) u i l j m x power b c read refl runs resumes) resumed;
+      (call_prefix g call s v (t, s.1) u i l j m x power b c read refl runs resumes) resumed;
 }
 
-pub leads_infix : {S W T V F G H : Type 0} (g : Grammar S W T V F G H) (whole call : Call)
+pub leads_infix : {S W T L V F G H : Type 0} (g : Made S W T L V F G H) (whole call : Call)
     (z : S × W) (o : Input T) (left : V) (xs : List (Open V F H)) (x : Open V F H) (power : ℤ)
     (s : S × W) (t : W) (i j : Input T) → Continues g whole z o call (Some left) xs s i
-    → Infixes g.folding.units g.next call left s.1 i x power t j
-    → Continues g whole z o (call_at power (units_left g.folding.units j)) None (x ∷ xs) (s.0, t) j
+    → Infixes (steps g).folding.units (steps g).next call left s.1 i x power t j
+    → Continues g whole z o (call_at power (units_left (steps g).folding.units j)) None (x ∷ xs)
+    (s.0, t) j
 leads_infix g whole call z o left xs x power s t i j known read = record {
   leads = λ b a u w m n runs (c, v, l, resumes, resumed). known.leads c a v w l n
-      (turn_infix call left s v (s.0, t) u i l j m x power b c read refl runs resumes) resumed;
+      (turn_infix g call left s v (s.0, t) u i l j m x power b c read refl runs resumes) resumed;
 }
 
-pub leads_postfix : {S W T V F G H : Type 0} (g : Grammar S W T V F G H) (whole call : Call)
+pub leads_postfix : {S W T L V F G H : Type 0} (g : Made S W T L V F G H) (whole call : Call)
     (z : S × W) (o : Input T) (left v : V) (xs : List (Open V F H)) (s : S × W) (t : W)
     (i j : Input T) → Continues g whole z o call (Some left) xs s i
-    → Postfixes g.folding.units g.next g.behind call left s.1 i v t j
+    → Postfixes (steps g).folding.units (steps g).next (steps g).behind call left s.1 i v t j
     → Continues g whole z o call (Some v) xs (s.0, t) j
 leads_postfix g whole call z o left v xs s t i j known read = record {
   leads = λ b a u w m n runs resumed. known.leads b a u w m n
-      (turn_postfix call left v s u (s.0, t) i m j b read refl runs) resumed;
+      (turn_postfix g call left v s u (s.0, t) i m j b read refl runs) resumed;
 }
 
-pub leads_close : {S W T V F G H : Type 0} (g : Grammar S W T V F G H) (whole call : Call)
+pub leads_close : {S W T L V F G H : Type 0} (g : Made S W T L V F G H) (whole call : Call)
     (z : S × W) (o : Input T) (left v w : V) (x : Open V F H) (xs : List (Open V F H))
     (s : S × W) (t : W) (i m j : Input T) → Continues g whole z o call (Some left) (x ∷ xs) s i
-    → TurnEnds F g.folding.units g.next g.behind g.folding.refusal call left s.1 i
+    → TurnEnds F (steps g).folding.units (steps g).next (steps g).behind (steps
+    g).folding.refusal call left s.1 i
     (Ok (v, false)) t m
-    → Closes g.folding x.operator x.call.turn m v (Ok w) j
+    → Closes (steps g).folding x.operator x.call.turn m v (Ok w) j
     → Continues g whole z o x.call (Some w) xs (s.0, t) j
 leads_close g whole call z o left v w x xs s t i m j known ends closes = record {
   leads = λ b a u y k n runs resumed. known.leads (Ok (v, false)) a (s.0, t) y m n
-      (turn_ends call left s (s.0, t) i m (Ok (v, false)) ends refl)
-      (b, u, k, resume_goes x (Ok (v, false)) b (s.0, t) u m k j w (v, refl, closes) runs, resumed);
+      (turn_ends g call left s (s.0, t) i m (Ok (v, false)) ends refl) (
+        b,
+        u,
+        k,
+        resume_goes g x (Ok (v, false)) b (s.0, t) u m k j w (v, refl, closes) runs,
+        resumed,
+      );
 }
 
-pub call_fails : {S W T V F G H : Type 0} (g : Grammar S W T V F G H) (whole call : Call)
+pub call_fails : {S W T L V F G H : Type 0} (g : Made S W T L V F G H) (whole call : Call)
     (z : S × W) (o : Input T) (xs : List (Open V F H)) (kind : Kind) (s : S × W) (t : S)
     (i j : Input T) → Continues g whole z o call None xs s i
-    → CallEnds H g.folding.units g.first g.folding.refusal call s.0 i kind t j
+    → CallEnds H (steps g).folding.units (steps g).first (steps g).folding.refusal call s.0 i
+    kind t j
     → TreeRuns g whole z o (Err kind) (t, s.1) j
 call_fails g whole call z o xs kind s t i j known ends =
     known.leads (Err kind) (Err kind) (t, s.1) (t, s.1) j j
-    (call_ends call s (t, s.1) i j kind (Err kind) ends refl refl)
+    (call_ends g call s (t, s.1) i j kind (Err kind) ends refl refl)
     (resumed_failure g xs kind (t, s.1) j)
 
 -- ... or at that of an operator
-pub turn_fails : {S W T V F G H : Type 0} (g : Grammar S W T V F G H) (whole call : Call)
+pub turn_fails : {S W T L V F G H : Type 0} (g : Made S W T L V F G H) (whole call : Call)
     (z : S × W) (o : Input T) (left : V) (xs : List (Open V F H)) (kind : Kind) (s : S × W)
     (t : W) (i j : Input T) → Continues g whole z o call (Some left) xs s i
-    → TurnEnds F g.folding.units g.next g.behind g.folding.refusal call left s.1 i (Err kind) t j
+    → TurnEnds F (steps g).folding.units (steps g).next (steps g).behind (steps
+    g).folding.refusal call left s.1 i (Err kind) t j
     → TreeRuns g whole z o (Err kind) (s.0, t) j
 turn_fails g whole call z o left xs kind s t i j known ends =
     known.leads (Err kind) (Err kind) (s.0, t) (s.0, t) j j
-    (turn_ends call left s (s.0, t) i j (Err kind) ends refl) (resumed_failure g xs kind (s.0, t) j)
+    (turn_ends g call left s (s.0, t) i j (Err kind) ends refl) (resumed_failure g xs kind (
+      s.0,
+      t,
+    ) j)
 
 -- ... or where the operator above is folded
-pub close_fails : {S W T V F G H : Type 0} (g : Grammar S W T V F G H) (whole call : Call)
+pub close_fails : {S W T L V F G H : Type 0} (g : Made S W T L V F G H) (whole call : Call)
     (z : S × W) (o : Input T) (left v : V) (x : Open V F H) (xs : List (Open V F H))
     (kind : Kind) (s : S × W) (t : W) (i m j : Input T)
     → Continues g whole z o call (Some left) (x ∷ xs) s i
-    → TurnEnds F g.folding.units g.next g.behind g.folding.refusal call left s.1 i
+    → TurnEnds F (steps g).folding.units (steps g).next (steps g).behind (steps
+    g).folding.refusal call left s.1 i
     (Ok (v, false)) t m
-    → Closes g.folding x.operator x.call.turn m v (Err kind) j
+    → Closes (steps g).folding x.operator x.call.turn m v (Err kind) j
     → TreeRuns g whole z o (Err kind) (s.0, t) j
 close_fails g whole call z o left v x xs kind s t i m j known ends closes =
     known.leads (Ok (v, false)) (Err kind) (s.0, t) (s.0, t) m j
-    (turn_ends call left s (s.0, t) i m (Ok (v, false)) ends refl) (
+    (turn_ends g call left s (s.0, t) i m (Ok (v, false)) ends refl) (
       Err kind,
       (s.0, t),
       j,
-      resume_ends x (Ok (v, false)) (Err kind) (s.0, t) (s.0, t) m j
+      resume_ends g x (Ok (v, false)) (Err kind) (s.0, t) (s.0, t) m j
           (inr (inl (v, false, kind, refl, closes, refl))) refl,
       resumed_failure g xs kind (s.0, t) j,
     )
 
 -- the outermost call ends
-pub call_done : {S W T V F G H : Type 0} (g : Grammar S W T V F G H) (whole call : Call)
+pub call_done : {S W T L V F G H : Type 0} (g : Made S W T L V F G H) (whole call : Call)
     (z : S × W) (o : Input T) (left v : V) (s : S × W) (t : W) (i j : Input T)
     → Continues g whole z o call (Some left) [] s i
-    → TurnEnds F g.folding.units g.next g.behind g.folding.refusal call left s.1 i
+    → TurnEnds F (steps g).folding.units (steps g).next (steps g).behind (steps
+    g).folding.refusal call left s.1 i
     (Ok (v, false)) t j
     → TreeRuns g whole z o (Ok (v, false)) (s.0, t) j
 call_done g whole call z o left v s t i j known ends =
     known.leads (Ok (v, false)) (Ok (v, false)) (s.0, t) (s.0, t) j j
-    (turn_ends call left s (s.0, t) i j (Ok (v, false)) ends refl) (refl, refl, refl)
+    (turn_ends g call left s (s.0, t) i j (Ok (v, false)) ends refl) (refl, refl, refl)
 
 -- every call ends
-pub all_done : {S W T V F G H : Type 0} (g : Grammar S W T V F G H) (whole call : Call)
+pub all_done : {S W T L V F G H : Type 0} (g : Made S W T L V F G H) (whole call : Call)
     (z : S × W) (o : Input T) (left v : V) (xs : List (Open V F H)) (s : S × W) (t : W)
     (i m j : Input T) (answer : Answer V) → Continues g whole z o call (Some left) xs s i
-    → TurnEnds F g.folding.units g.next g.behind g.folding.refusal call left s.1 i
+    → TurnEnds F (steps g).folding.units (steps g).next (steps g).behind (steps
+    g).folding.refusal call left s.1 i
     (Ok (v, true)) t m
-    → AllEnd g.folding xs v m answer j
+    → AllEnd (steps g).folding xs v m answer j
     → TreeRuns g whole z o (of_all answer) (s.0, t) j
 all_done g whole call z o left v xs s t i m j answer known ends ended =
     known.leads (Ok (v, true)) (of_all answer) (s.0, t) (s.0, t) m j
-    (turn_ends call left s (s.0, t) i m (Ok (v, true)) ends refl)
+    (turn_ends g call left s (s.0, t) i m (Ok (v, true)) ends refl)
     (resumed_all g xs v (s.0, t) m j answer ended)
 
 -- as an expression's answer
-pub expression_all : {S W T V F G H : Type 0} (g : Grammar S W T V F G H) (level : ℤ) (z : S × W)
+pub expression_all : {S W T L V F G H : Type 0} (g : Made S W T L V F G H) (level : ℤ) (z : S × W)
     (o : Input T) (answer : Answer V) (t : S × W) (j : Input T)
-    → TreeRuns g (call_at level (units_left g.folding.units o)) z o (of_all answer) t j
+    → TreeRuns g (call_at level (units_left (steps g).folding.units o)) z o (of_all answer) t j
     → ExpressionRuns g level z o answer t j
-expression_all g level z o (Ok v) t j runs = (true, runs)
-expression_all g level z o (Err kind) t j runs = runs
+expression_all g level z o (Ok v) t j runs = expression_gives g level z t o j v true runs
+expression_all g level z o (Err kind) t j runs = tree_fails g level z t o j kind runs
 
-pub expression_fails : {S W T V F G H : Type 0} (g : Grammar S W T V F G H) (level : ℤ) (z : S × W)
+pub expression_fails : {S W T L V F G H : Type 0} (g : Made S W T L V F G H) (level : ℤ) (z : S × W)
     (o : Input T) (answer : Answer V) (kind : Kind) (t : S × W) (j : Input T)
     → answer ≡ Err kind
-    → TreeRuns g (call_at level (units_left g.folding.units o)) z o (Err kind) t j
+    → TreeRuns g (call_at level (units_left (steps g).folding.units o)) z o (Err kind) t j
     → ExpressionRuns g level z o answer t j
 expression_fails g level z o answer kind t j e runs =
-    let P : Answer _ → Type 0 = λ a. ExpressionRuns g level z o a t j in subst P (sym e) runs
+    let P : Answer _ → Type 0 = λ a. ExpressionRuns g level z o a t j in
+    subst P (sym e) (tree_fails g level z t o j kind runs)

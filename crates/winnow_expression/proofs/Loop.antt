@@ -4,30 +4,31 @@ use Rattle.std.specs.Prelude.{[], ◌∷◌, length, reverse}
 use Rattle.stream_errors.specs.Form.{Answer}
 use Rattle.streams.specs.Input.{Input}
 use Rattle.winnow_expression.specs.Units.{units_left}
-use Rattle.winnow_expression.specs.Expression.{TreeRuns, TailRuns, JoinedRuns}
-use Rattle.winnow_expression.specs.Grammar.{Grammar}
+use Rattle.winnow_expression.specs.Covers.Trees.{TreeRuns, TailRuns, JoinedRuns}
 use Rattle.winnow_expression.specs.Calls.{Calls, Open}
 use Rattle.parser_definitions.specs.Expression.{Call}
 use Rattle.winnow_expression.specs.declared.combinator.calls.Operator.{Operator}
 use Rattle.winnow_expression.specs.declared.combinator.calls.Operator.TheVariants.{Prefix, Infix}
+use Rattle.winnow_expression.specs.Covers.Trees.{Made, steps}
 
 -- The result of the outermost call, by the result of the call below the open operators. The last
 -- operator that was opened comes first.
-abbrev pub Resumed : {S W T V F G H : Type 0} → Grammar S W T V F G H → List (Open V F H)
+abbrev pub Resumed : {S W T L V F G H : Type 0} → Made S W T L V F G H → List (Open V F H)
     → Answer (V × Bool) → S × W → Input T → Answer (V × Bool) → S × W → Input T → Type 0
 Resumed g [] b s i a t j = (a ≡ b) × (t ≡ s) × (j ≡ i)
-Resumed {S} {W} {T} {V} {F} {G} {H} g (x ∷ xs) b s i a t j =
+Resumed {S} {W} {T} {L} {V} {F} {G} {H} g (x ∷ xs) b s i a t j =
     (c : Answer (V × Bool)) × (u : S × W) × (m : Input T) × JoinedRuns g x b s i c u m
     × Resumed g xs c u m a t j
 
 -- The result of the current call: from its start, or after a value.
-abbrev pub PresentRuns : {S W T V F G H : Type 0} → Grammar S W T V F G H → Call → Option V
+abbrev pub PresentRuns : {S W T L V F G H : Type 0} → Made S W T L V F G H → Call → Option V
     → S × W → Input T → Answer (V × Bool) → S × W → Input T → Type 0
 PresentRuns g call None s i a t j = TreeRuns g call s i a t j
 PresentRuns g call (Some v) s i a t j = TailRuns g call v s i a t j
 
 -- Whatever the present call and the calls above it do from here on is what the whole does.
-pub record Continues {S W T V F G H : Type 0} (g : Grammar S W T V F G H) (whole : Call) (s : S × W)
+pub record Continues {S W T L V F G H : Type 0} (g : Made S W T L V F G H) (whole : Call) (s : S
+    × W)
     (i : Input T) (call : Call) (left : Option V) (open_ : List (Open V F H)) (t : S × W)
     (j : Input T) : Type 0 where
   pub leads : (b a : Answer (V × Bool)) (u w : S × W) (m n : Input T)
@@ -51,12 +52,12 @@ StartsCall None call = call.turn ≡ call.began
 StartsCall (Some v) call = Unit {0}
 
 -- The invariant of the loop.
-abbrev pub Invariant : {S W T V F G H : Type 0} → Grammar S W T V F G H → Call → S × W → Input T
+abbrev pub Invariant : {S W T L V F G H : Type 0} → Made S W T L V F G H → Call → S × W → Input T
     → Calls V F H → Option V → S × W → Input T → Type 0
 Invariant g whole s i calls left t j =
     Continues g whole s i calls.present left (reverse calls.opened) t j
     × Nested (reverse calls.opened) calls.present.began
-    × (units_left g.folding.units j ≤ calls.present.began) × StartsCall left calls.present
+    × (units_left (steps g).folding.units j ≤ calls.present.began) × StartsCall left calls.present
 
 -- whether one number is above another, as a number
 abbrev pub above : ℕ → ℕ → ℕ

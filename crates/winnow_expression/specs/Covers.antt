@@ -10,6 +10,8 @@ use Rattle.parser_definitions.specs.Outcome.{Does, Setting, outcome_of, setting_
 use Rattle.winnow_core.specs.Settings.{At, at_back, at_end, at_setting, outcome_at}
 use Rattle.winnow_core.specs.Runs.{Runs}
 use Rattle.winnow_expression.specs.Ending.{Ending, ran_ending}
+pub mod Expressions
+pub mod Opens
 pub mod Parts
 pub mod Steps
 pub mod Trees

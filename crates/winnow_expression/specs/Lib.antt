@@ -12,3 +12,4 @@ pub mod Operators
 pub mod Parts
 pub mod Places
 pub mod Units
+pub mod Within

@@ -26,16 +26,9 @@ use Rattle.winnow_expression_trees.specs.Accepting.{AcceptingDo, AssertingDo}
 use Rattle.winnow_expression_trees.specs.Accepting.{FoldAnswers, FoldFails}
 use Rattle.winnow_expression_trees.specs.Accepting.{IsTook, Sure, accepted, both_accepted}
 use Rattle.winnow_expression_trees.specs.Premises.{NotMemory}
-use Rattle.winnow_expression_trees.proofs.Within.{Ends, Fine, trees_map}
+use Rattle.winnow_expression.specs.Within.{Ends, Fine, any_fine, no_ends, trees_map}
 
 -- ---- outcomes and their kinds
-
-any_fine : {L O : Type 0} (y : Outcome L O) → Fine (λ k. ⊤) y
-any_fine (took o l) = tt
-any_fine (backs l) = tt
-any_fine (cuts l) = tt
-any_fine (asks need l) = tt
-any_fine wants = tt
 
 took_fine : {L O : Type 0} (allowed : Kind → Type 0) (a : Answer O) (l : L) {y : Outcome L O}
     → IsOk a → y ≡ outcome_of a l → Fine allowed y
@@ -77,14 +70,6 @@ gives {T} {V = V} reading at m runs refused ends fails z (i, a, j, start, is, r,
         inr (subst (λ z. Ends refused (λ l. l) z) (sym e) (ended (incomplete need) r))
     by (Err memory) r e =
         inr (subst (λ z. Ends refused (λ l. l) z) (sym e) (left_of j, ended memory r))
-
-no_ends : {X T Q V : Type 0} (y : Outcome (End Q T) V)
-    → Ends {T = T} (λ k l. ⊥) (λ e. e.1) y → X
-no_ends (took o l) none = absurd none
-no_ends (backs l) none = absurd none
-no_ends (cuts l) none = absurd none
-no_ends (asks need l) none = absurd none
-no_ends wants none = absurd none.1
 
 -- ---- calls of an expression
 

@@ -10,4 +10,3 @@ pub mod PremisesLemmas
 pub mod TellsEnds
 pub mod Told
 pub mod Whole
-pub mod Within

@@ -19,7 +19,7 @@ use Rattle.parser_definitions.specs.Then.{ComesOf, Then}
 use Rattle.parser_definitions.specs.Then.Steps.{instead, same, where_took}
 use Rattle.winnow_core.specs.Runs.{Runs}
 use Rattle.winnow_expression.specs.Covers.Steps.{misuse}
-use Rattle.winnow_expression.specs.Covers.Trees.{kept, operator_kept}
+use Rattle.winnow_expression.specs.Covers.Opens.{kept, operator_kept}
 use Rattle.winnow_expression.specs.Did.{Came, here}
 use Rattle.winnow_expression.specs.Did.Steps as step
 use Rattle.winnow_expression.specs.Did.Steps.{Checks, PartsCame, all_is, checks, closed}

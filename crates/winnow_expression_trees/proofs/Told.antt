@@ -15,7 +15,7 @@ use Rattle.parser_definitions.specs.Left.{End, Left}
 use Rattle.parser_definitions.specs.Outcome.{Does, Outcome, Setting}
 use Rattle.parser_definitions.specs.Outcome.{took}
 use Rattle.winnow_core.specs.Runs.{Runs}
-use Rattle.winnow_expression.specs.Covers.Trees.{kept, operator_kept}
+use Rattle.winnow_expression.specs.Covers.Opens.{kept, operator_kept}
 use Rattle.winnow_expression.specs.Did.{here}
 use Rattle.winnow_expression.specs.Did.Steps as step
 use Rattle.winnow_expression.specs.Did.Steps.{Checks, PartsCame, checks, closed}

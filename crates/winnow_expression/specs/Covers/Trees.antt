@@ -1,41 +1,35 @@
--- Trees of an expression with covered parts are covered.
-use Rattle.std.specs.Prelude.{◌≡◌, ◌⊎◌, ℕ, ℤ, Bool, true, List, Option, Ok, Err}
-use Rattle.std.proofs.Common.{refl, sym, subst, ap, ◌∙◌, inl, inr}
-use Rattle.streams.specs.Input.{Input}
+-- Trees of an expression, by the steps of its calls.
+use Rattle.std.specs.Prelude.{◌≡◌, ◌⊎◌, ℤ, Bool, Option, Some, None, Ok, Err}
+use Rattle.std.proofs.Common.{refl, sym, subst, inl, inr}
+use Rattle.streams.specs.Input.{Input, is_end_of_refl}
 use Rattle.streams.specs.Kind.{Kind, backtrack, cut, incomplete, memory}
 use Rattle.streams.specs.Reading.{Reading}
 use Rattle.stream_errors.specs.Form.{Answer, ErrorForm, assert_kind}
 use Rattle.parser_definitions.specs.Does.{Ran}
-use Rattle.parser_definitions.specs.Expression.{Call, FoldsOpen, JoinDoes, JoinEnds, call_at}
-use Rattle.parser_definitions.specs.Expression.{Open, Operators, TailDoes, TreeDoes, all_end}
-use Rattle.parser_definitions.specs.Expression.{checked, join_ends, join_goes}
+use Rattle.parser_definitions.specs.Expression.{Call, JoinDoes, call_at}
+use Rattle.parser_definitions.specs.Expression.{Open, Operators, TailDoes, TreeDoes}
+use Rattle.parser_definitions.specs.Expression.{join_ends, join_goes}
 use Rattle.parser_definitions.specs.Expression.{opened, tail_ends, tail_infix}
 use Rattle.parser_definitions.specs.Expression.{tail_postfix, tree_ends, tree_operand, tree_prefix}
 use Rattle.parser_definitions.specs.Expression.{TreesDo, tree_value}
-use Rattle.parser_definitions.specs.Left.{End, left_of}
-use Rattle.parser_definitions.specs.Outcome.{Does, Outcome, Setting}
-use Rattle.parser_definitions.specs.Outcome.{outcome_of, setting_of, took}
+use Rattle.parser_definitions.specs.Left.{left_of}
+use Rattle.parser_definitions.specs.Outcome.{Does, Outcome, asks, backs, cuts}
+use Rattle.parser_definitions.specs.Outcome.{outcome_of, setting_of, took, wants}
 use Rattle.parser_definitions.specs.Then.{ComesOf}
-use Rattle.parser_definitions.specs.Then.Steps.{same}
-use Rattle.winnow_core.specs.Results.{gave}
-use Rattle.winnow_core.specs.Runs.{Runs}
+use Rattle.parser_definitions.specs.Then.Steps.{In}
+use Rattle.winnow_core.specs.Covers.{at_setting, ran_covers, ran_ends}
 use Rattle.winnow_expression.specs.Covers.Steps as step
-use Rattle.winnow_expression.specs.Covers.{Reads, Within, ran_reads, reads_ran, within_end}
-use Rattle.winnow_expression.specs.Covers.{within_same}
-use Rattle.winnow_expression.specs.Covers.Steps.{PartsCovered, checked_error}
-use Rattle.winnow_expression.specs.Covers.Steps.{first_did, misuse, next_did, tail_ended}
+use Rattle.winnow_expression.specs.Covers.{covered_reads, Within, within_end}
+use Rattle.winnow_expression.specs.Covers.Steps.{PartsCovered}
+use Rattle.winnow_expression.specs.Covers.Steps.{first_did, next_did, tail_ended}
 use Rattle.winnow_expression.specs.Covers.Steps.{tree_ended}
 use Rattle.winnow_expression.specs.Calls as lib
-use Rattle.winnow_expression.specs.Definition.{LeveledDo, OutputAs, first_side, next_side}
-use Rattle.winnow_expression.specs.Definition.{operators}
-use Rattle.winnow_expression.specs.Expression.{ExpressionRuns, JoinedRuns, LeveledRuns, TailRuns}
-use Rattle.winnow_expression.specs.Expression.{TreeRuns, call_ends, call_operand, call_prefix}
-use Rattle.winnow_expression.specs.Expression.{resume_ends, resume_goes, turn_ends, turn_infix}
-use Rattle.winnow_expression.specs.Expression.{turn_postfix}
+use Rattle.winnow_expression.specs.Definition.{OutputAs, first_side, made_as, next_side, operators}
 use Rattle.winnow_expression.specs.Folds.{DoesBinary, DoesUnary, FoldsLeaveEnds}
-use Rattle.winnow_expression.specs.Grammar.{Closes, Folding, Grammar, ResumeEnds, folding, grammar}
-use Rattle.winnow_expression.specs.Operators.{fold_of}
-use Rattle.winnow_expression.specs.declared.combinator.calls.Operator.{Operator}
+use Rattle.winnow_expression.specs.Grammar.{CallEnds, Closes, Grammar, Infixes, Postfixes}
+use Rattle.winnow_expression.specs.Grammar.{Prefixes, ResumeEnds, ResumeGoes, TurnEnds, folding}
+use Rattle.winnow_expression.specs.Grammar.{grammar}
+use Rattle.winnow_expression.specs.Units.{units_left}
 use Rattle.winnow_expression.specs.declared.combinator.calls.Operator.TheVariants.{
   Prefix as prefix_open,
 }
@@ -52,269 +46,310 @@ use Rattle.winnow_expression.specs.declared.combinator.places.First.TheVariants.
 }
 use Rattle.winnow_expression.specs.declared.combinator.places.Next.{Next}
 use Rattle.winnow_expression.specs.declared.combinator.places.Next.TheVariants.{
+  Nothing,
   Postfix as postfix_read,
 }
 use Rattle.winnow_expression.specs.declared.combinator.places.Next.TheVariants.{Infix as infix_read}
+use Rattle.winnow_expression.specs.Covers.Opens.{closed, join_ended, kept}
 
--- ---- open operators, as the machine has them
+-- ---- what the machine is over
 
-abbrev pub operator_kept : {V F H : Type 0} → Prefix F ⊎ (V × Infix H) → Operator V F H
-operator_kept (inl p) = prefix_open p.1
-operator_kept (inr o) = infix_open o.0 (fold_of o.1)
+-- what is read, as the places of an expression have it
+abbrev pub first_from : {V F : Type 0} → V ⊎ Prefix F → First V F
+first_from (inl v) = Operand v
+first_from (inr p) = prefix_read p.0 p.1
 
-abbrev pub kept : {V F H : Type 0} → Open V (Prefix F) (Infix H) → lib.Open V F H
-kept x = record { operator = operator_kept x.operator; call = x.call }
+abbrev pub next_from : {G H : Type 0} → Option (Postfix G ⊎ Infix H) → Next G H
+next_from None = Nothing
+next_from (Some (inl p)) = postfix_read p.0 p.1
+next_from (Some (inr o)) = infix_read o
 
--- ---- trees
+-- Definitions of its two parts, the effects of its folds, and the least power.
+pub record Made (S W T L V F G H : Type 0) : Type 1 where
+  pub reading : Reading T L
+  pub form : ErrorForm
+  pub first : Does S T (First V F)
+  pub next : Does W T (Next G H)
+  pub before : DoesUnary F T V
+  pub behind : DoesUnary G T V
+  pub between : DoesBinary H T V
+  pub folds : FoldsLeaveEnds reading before behind between
+  pub level : ℤ
 
-module _ {S W T L V F G H : Type 0} {reading : Reading T L} {at : Setting}
-    {start : Input T} {before : DoesUnary F T V} {behind : DoesUnary G T V}
-    {between : DoesBinary H T V} {first : Runs S T (First V F)} {next : Runs W T (Next G H)}
-    {one : Does S T (V ⊎ Prefix F)} {two : Does W T (Option (Postfix G ⊎ Infix H))}
-    (p : PartsCovered reading at start before behind between first next one two) (level : ℤ) where
-  abbrev units : List T → ℕ
-  units = reading.units
+abbrev pub made : {S W T L V F G H : Type 0} → (reading : Reading T L) → ErrorForm
+    → Does S T (First V F) → Does W T (Next G H) → (before : DoesUnary F T V)
+    → (behind : DoesUnary G T V) → (between : DoesBinary H T V)
+    → FoldsLeaveEnds reading before behind between → ℤ → Made S W T L V F G H
+made reading form first next before behind between folds level = record {
+  reading = reading;
+  form = form;
+  first = first;
+  next = next;
+  before = before;
+  behind = behind;
+  between = between;
+  folds = folds;
+  level = level;
+}
 
-  abbrev Here : Input T → Type 0
-  Here i = Within reading at start i
+-- its parts and folds, as they are called
+abbrev pub steps : {S W T L V F G H : Type 0} → Made S W T L V F G H → Grammar S W T V F G H
+steps m = grammar (Ran m.reading m.first m.form) (Ran m.reading m.next m.form) (m.behind m.form)
+    (folding (m.before m.form) (m.between m.form) m.reading.units (assert_kind m.form))
 
-  abbrev Q : Type 0
-  Q = step.Q p level
+first_round : {L V F : Type 0} (y : Outcome L (First V F))
+    → made_as first_from (made_as first_side y) ≡ y
+first_round (took (Operand v) l) = refl
+first_round (took (prefix_read p f) l) = refl
+first_round (backs l) = refl
+first_round (cuts l) = refl
+first_round (asks need l) = refl
+first_round wants = refl
 
-  abbrev O : Operators T V (Prefix F) (Postfix G) (Infix H)
-  O = step.O p level
+-- and the other way
+pub first_kept : {L V F : Type 0} (y : Outcome L (V ⊎ Prefix F))
+    → made_as first_side (made_as first_from y) ≡ y
+first_kept (took (inl v) l) = refl
+first_kept (took (inr p) l) = refl
+first_kept (backs l) = refl
+first_kept (cuts l) = refl
+first_kept (asks need l) = refl
+first_kept wants = refl
 
-  abbrev Folds : Folding T V F H
-  Folds = step.Folds p level
+pub next_kept : {L G H : Type 0} (y : Outcome L (Option (Postfix G ⊎ Infix H)))
+    → made_as next_side (made_as next_from y) ≡ y
+next_kept (took None l) = refl
+next_kept (took (Some (inl p)) l) = refl
+next_kept (took (Some (inr o)) l) = refl
+next_kept (backs l) = refl
+next_kept (cuts l) = refl
+next_kept (asks need l) = refl
+next_kept wants = refl
 
-  abbrev Parts : Grammar S W T V F G H
-  Parts = step.Parts p level
+next_round : {L G H : Type 0} (y : Outcome L (Next G H))
+    → made_as next_from (made_as next_side y) ≡ y
+next_round (took Nothing l) = refl
+next_round (took (postfix_read p f) l) = refl
+next_round (took (infix_read o) l) = refl
+next_round (backs l) = refl
+next_round (cuts l) = refl
+next_round (asks need l) = refl
+next_round wants = refl
 
-  abbrev One : Does Q T (V ⊎ Prefix F)
-  One = step.One p level
+module _ {S W T L V F G H : Type 0} (g : Made S W T L V F G H) where
+  abbrev pub Whole : Type 0
+  Whole = S × W × ℤ
 
-  abbrev Two : Does Q T (Option (Postfix G ⊎ Infix H))
-  Two = step.Two p level
+  abbrev pub whole : S × W → Whole
+  whole s = (s.0, s.1, g.level)
 
-  abbrev full : S × W → Q
-  full s = (s.0, s.1, level)
+  abbrev pub OfFirst : Does Whole T (V ⊎ Prefix F)
+  OfFirst = In (λ q. q.0) (λ q u. (u, q.1, q.2)) (OutputAs first_from g.first)
 
-  -- an open operator is folded
-  closed : (o : Prefix F ⊎ (V × Infix H)) (turn : ℕ) (i : Input T) (v : V) (a : Answer V)
-      (j : Input T) → Here i → Closes Folds (operator_kept o) turn i v a j
-      → FoldsOpen O at o turn (left_of i) v (outcome_of a (left_of j)) × Here j
-  closed (inl x) turn i v a j here folds = (
-    (i, a, j, here.setting, refl, folds, refl),
-    within_end here (p.folds.before at.form x.1 i v a j folds),
+  abbrev pub OfNext : Does Whole T (Option (Postfix G ⊎ Infix H))
+  OfNext = In (λ q. q.1) (λ q u. (q.0, u, q.2)) (OutputAs next_from g.next)
+
+  abbrev pub Powers : Operators T V (Prefix F) (Postfix G) (Infix H)
+  Powers = operators g.reading.units g.before g.behind g.between
+
+  abbrev TreeOf : Call → Does Whole T (V × Bool)
+  TreeOf call at q w y = TreeDoes Powers OfFirst OfNext at call q w y
+
+  abbrev TailOf : Call → V → Does Whole T (V × Bool)
+  TailOf call v at q w y = TailDoes Powers OfFirst OfNext at call v q w y
+
+  -- a call parses a tree, or the tail of one after a value
+  abbrev pub TreeRuns : Call → S × W → Input T → Answer (V × Bool) → S × W → Input T → Type 0
+  TreeRuns call s i a t j = Ran g.reading (TreeOf call) g.form (whole s) i a (whole t) j
+
+  abbrev pub TailRuns : Call → V → S × W → Input T → Answer (V × Bool) → S × W → Input T → Type 0
+  TailRuns call v s i a t j = Ran g.reading (TailOf call v) g.form (whole s) i a (whole t) j
+
+  -- an open operator is joined to its right operand, and then the tail of its tree follows
+  abbrev pub JoinedRuns : lib.Open V F H → Answer (V × Bool) → S × W → Input T
+      → Answer (V × Bool) → S × W → Input T → Type 0
+  JoinedRuns x b s i a t j = (d : Open V (Prefix F) (Infix H)) → x ≡ kept d
+      → JoinDoes Powers OfFirst OfNext (setting_of g.form i) d
+      (outcome_of b (whole s, left_of i)) (outcome_of a (whole t, left_of j))
+      × Within g.reading (setting_of g.form i) i j
+
+  -- an expression
+  abbrev pub ExpressionRuns : ℤ → S × W → Input T → Answer V → S × W → Input T → Type 0
+  ExpressionRuns level s i a t j =
+      Ran g.reading (λ at q w y. TreesDo Powers OfFirst OfNext level at q w y) g.form (whole s) i a
+      (whole t) j
+
+  covered : (i : Input T) → PartsCovered g.reading (setting_of g.form i) i g.before g.behind
+      g.between (Ran g.reading g.first g.form) (Ran g.reading g.next g.form)
+      (OutputAs first_from g.first) (OutputAs next_from g.next)
+  covered i = record {
+    reads_first = record {
+      reads = λ s m a t j here r.
+          let d = (covered_reads (ran_covers g.reading g.first (setting_of g.form i))
+          (ran_ends g.reading g.first g.form)).reads s m a t j here r in (
+            subst (λ y. g.first (setting_of g.form i) s (left_of m) y)
+                (sym (first_round (outcome_of a (t, left_of j)))) d.0,
+            d.1,
+          );
+    };
+    reads_next = record {
+      reads = λ s m a t j here r.
+          let d = (covered_reads (ran_covers g.reading g.next (setting_of g.form i))
+          (ran_ends g.reading g.next g.form)).reads s m a t j here r in (
+            subst (λ y. g.next (setting_of g.form i) s (left_of m) y)
+                (sym (next_round (outcome_of a (t, left_of j)))) d.0,
+            d.1,
+          );
+    };
+    folds = g.folds;
+  }
+
+  start : (i : Input T) → Within g.reading (setting_of g.form i) i i
+  start i = record {
+    setting = record { more = refl; possible = refl };
+    ends = is_end_of_refl g.reading i;
+  }
+
+  ran : {O : Type 0} (does : Does Whole T O) (s t : Whole) (i j : Input T) (a : Answer O)
+      → Within g.reading (setting_of g.form i) i j
+      → does (setting_of g.form i) s (left_of i) (outcome_of a (t, left_of j))
+      → Ran g.reading does g.form s i a t j
+  ran does s t i j a here did = (here.ends, here.setting.more, here.setting.possible, did)
+
+  -- what a call does where another ended, in the setting of the first
+  there : {O : Type 0} (does : Does Whole T O) (s t : Whole) (i m j : Input T) (a : Answer O)
+      → Within g.reading (setting_of g.form i) i m → Ran g.reading does g.form s m a t j
+      → does (setting_of g.form i) s (left_of m) (outcome_of a (t, left_of j))
+      × Within g.reading (setting_of g.form i) i j
+  there does s t i m j a here run = (
+    subst (λ z. does z s (left_of m) (outcome_of a (t, left_of j))) (at_setting here.setting) run.3,
+    within_end here run.0,
   )
-  closed (inr o) turn i v a j here (inl (k, folds, e)) =
-      let P : Answer V → Type 0 = λ b. checked units turn at (outcome_of (Err k) (left_of j))
-      (outcome_of b (left_of j)) in (
-        (
-          outcome_of (Err k) (left_of j),
-          (i, Err k, j, here.setting, refl, folds, refl),
-          subst P (sym e) (checked_error V units turn at k (left_of j)),
-        ),
-        within_end here (p.folds.between at.form (fold_of o.1) i o.0 v (Err k) j folds),
+
+  joins : (x : lib.Open V F H) (d : Open V (Prefix F) (Infix H)) (s t : S × W) (i n j : Input T)
+      (b a : Answer (V × Bool)) → Within g.reading (setting_of g.form i) i n → x ≡ kept d
+      → JoinedRuns x b s n a t j
+      → JoinDoes Powers OfFirst OfNext (setting_of g.form i) d
+      (outcome_of b (whole s, left_of n)) (outcome_of a (whole t, left_of j))
+      × Within g.reading (setting_of g.form i) i j
+  joins x d s t i n j b a here is joined =
+      let r = joined d is in (
+        subst (λ z. JoinDoes Powers OfFirst OfNext z d (outcome_of b (whole s, left_of n))
+            (outcome_of a (whole t, left_of j))) (at_setting here.setting) r.0,
+        within_end here r.1.ends,
       )
-  closed (inr o) turn i v a j here (inr (inl (value, folds, still, e))) = (
-    (
-      took value (left_of j),
-      (i, Ok value, j, here.setting, refl, folds, refl),
-      inl (still, gave (left_of j) e ∙ misuse at (left_of j)),
-    ),
-    within_end here (p.folds.between at.form (fold_of o.1) i o.0 v (Ok value) j folds),
-  )
-  closed (inr o) turn i v a j here (inr (inr (value, folds, moved, e))) = (
-    (
-      took value (left_of j),
-      (i, Ok value, j, here.setting, refl, folds, refl),
-      inr (moved, gave (left_of j) e),
-    ),
-    within_end here (p.folds.between at.form (fold_of o.1) i o.0 v (Ok value) j folds),
-  )
 
-  -- an interrupted call ends
-  join_ended : (d : Open V (Prefix F) (Infix H)) (b a : Answer (V × Bool)) (s t : S × W)
-      (i j : Input T) → Here i → ResumeEnds Parts (kept d) b i a j → t ≡ s
-      → JoinEnds O at d (outcome_of b (full s, left_of i)) (outcome_of a (full t, left_of j))
-      × Here j
-  join_ended d b a s t i j here (inl (k, e, f, put)) is =
-      let P : Answer (V × Bool) → Answer (V × Bool) → S × W → Input T → Type 0 = λ b a t j.
-      JoinEnds O at d (outcome_of b (full s, left_of i)) (outcome_of a (full t, left_of j)) in (
-        subst (λ b. P b a t j) (sym e) (subst (λ a. P (Err k) a t j) (sym f)
-            (subst (λ t. P (Err k) (Err k) t j) (sym is)
-            (subst (λ j. P (Err k) (Err k) s j) (sym put) (by k)))),
-        within_same put here,
-      )
+  pub call_ends : (call : Call) (s t : S × W) (i j : Input T) (kind : Kind) (a : Answer (V × Bool))
+      → CallEnds H g.reading.units (steps g).first (assert_kind g.form) call s.0 i kind t.0 j
+      → t.1 ≡ s.1 → a ≡ Err kind → TreeRuns call s i a t j
+  call_ends call s t i j kind a ended same e =
+      let d = tree_ended (covered i) g.level call s t i j kind a (start i) ended same e in
+      ran (TreeOf call) (whole s) (whole t) i j a d.1 (tree_ends d.0)
+
+  pub call_operand : (call : Call) (s t u : S × W) (i j m : Input T) (v : V)
+      (a : Answer (V × Bool)) → (steps g).first s.0 i (Ok (Operand v)) u.0 m → u.1 ≡ s.1
+      → TailRuns call v u m a t j → TreeRuns call s i a t j
+  call_operand call s t u i j m v a read same tail =
+      let d = first_did (covered i) g.level s u i m (Ok (Operand v)) (start i) read same in
+      let r = there (TailOf call v) (whole u) (whole t) i m j a d.1 tail in
+      ran (TreeOf call) (whole s) (whole t) i j a r.1 (tree_operand v d.0 r.0)
+
+  pub call_prefix : (call : Call) (s t u w : S × W) (i j m n : Input T) (x : lib.Open V F H)
+      (power : ℤ) (b a : Answer (V × Bool))
+      → Prefixes g.reading.units (steps g).first call s.0 i x power u.0 m → u.1 ≡ s.1
+      → TreeRuns (call_at power (units_left g.reading.units m)) u m b w n
+      → JoinedRuns x b w n a t j → TreeRuns call s i a t j
+  call_prefix call s t u w i j m n x power b a (fold, read, less, is) same inner joined =
+      let d = first_did (covered i) g.level s u i m (Ok (prefix_read power fold)) (start i) read
+      same in
+      let r = there (TreeOf (call_at power (units_left g.reading.units m))) (whole u) (whole w)
+      i m n
+      b d.1 inner in
+      let z = joins x (record { operator = inl (power, fold); call = call }) w t i n j b a r.1 is
+      joined in
+      ran (TreeOf call) (whole s) (whole t) i j a z.1 (tree_prefix (power, fold) d.0 less r.0 z.0)
+
+  pub turn_ends : (call : Call) (left : V) (s t : S × W) (i j : Input T) (a : Answer (V × Bool))
+      → TurnEnds F g.reading.units (steps g).next (g.behind g.form) (assert_kind g.form) call left
+      s.1 i a t.1 j → t.0 ≡ s.0 → TailRuns call left s i a t j
+  turn_ends call left s t i j a ended same =
+      let d = tail_ended (covered i) g.level call left s t i j a (start i) ended same in
+      ran (TailOf call left) (whole s) (whole t) i j a d.1 (tail_ends d.0)
+
+  pub turn_postfix : (call : Call) (left v : V) (s t u : S × W) (i j m : Input T)
+      (a : Answer (V × Bool))
+      → Postfixes g.reading.units (steps g).next (g.behind g.form) call left s.1 i v u.1 m
+      → u.0 ≡ s.0 → TailRuns call v u m a t j → TailRuns call left s i a t j
+  turn_postfix call left v s t u i j m a (power, fold, n, read, reaches, folds, moved) same tail =
+      let d = next_did (covered i) g.level s u i n (Ok (postfix_read power fold)) (start i) read
+      same
+      in
+      let c = within_end d.1 (g.folds.behind g.form fold n left (Ok v) m folds) in
+      let r = there (TailOf call v) (whole u) (whole t) i m j a c tail in
+      ran (TailOf call left) (whole s) (whole t) i j a r.1 (tail_postfix (power, fold) v d.0
+      reaches (
+        took v (left_of m),
+        (n, Ok v, m, d.1.setting, refl, folds, refl),
+        inr (moved, refl),
+      ) r.0)
+
+  pub turn_infix : (call : Call) (left : V) (s t u w : S × W) (i j m n : Input T)
+      (x : lib.Open V F H) (power : ℤ) (b a : Answer (V × Bool))
+      → Infixes g.reading.units (steps g).next call left s.1 i x power u.1 m → u.0 ≡ s.0
+      → TreeRuns (call_at power (units_left g.reading.units m)) u m b w n
+      → JoinedRuns x b w n a t j → TailRuns call left s i a t j
+  turn_infix call left s t u w i j m n x power b a (o, read, reaches, apart, moved, right, is) same
+      inner joined =
+      let d = next_did (covered i) g.level s u i m (Ok (infix_read o)) (start i) read same in
+      let r = there (TreeOf (call_at power (units_left g.reading.units m))) (whole u) (whole w)
+      i m n
+      b d.1 inner in
+      let z = joins x (opened Powers call left o (left_of i)) w t i n j b a r.1 is joined in
+      let P : ℤ → Type 0 = λ p. TreeDoes Powers OfFirst OfNext (setting_of g.form i)
+      (call_at p (g.reading.units m.left.tokens)) (whole u) (left_of m)
+      (outcome_of b (whole w, left_of n)) in
+      ran (TailOf call left) (whole s) (whole t) i j a z.1
+      (tail_infix o d.0 (reaches, apart, moved) (subst P right r.0) z.0)
+
+  pub resume_ends : (x : lib.Open V F H) (b a : Answer (V × Bool)) (s t : S × W) (i j : Input T)
+      → ResumeEnds (steps g) x b i a j → t ≡ s → JoinedRuns x b s i a t j
+  resume_ends x b a s t i j ended same d is =
+      let r = join_ended (covered i) g.level d b a s t i j (start i)
+      (subst (λ x. ResumeEnds (steps g) x b i a j) is ended) same in
+      (join_ends r.0, r.1)
+
+  pub resume_goes : (x : lib.Open V F H) (b a : Answer (V × Bool)) (s t : S × W) (i j m : Input T)
+      (v : V) → ResumeGoes (steps g) x b i v m → TailRuns x.call v s m a t j
+      → JoinedRuns x b s i a t j
+  resume_goes x b a s t i j m v (right, e, closes) tail d is =
+      let C : lib.Open V F H → Type 0 = λ x.
+      Closes (steps g).folding x.operator x.call.turn i right (Ok v) m in
+      let c = closed (covered i) g.level d.operator d.call.turn i right (Ok v) m (start i)
+      (subst C is closes) in
+      let r = there (TailOf x.call v) (whole s) (whole t) i m j a c.1 tail in
+      let P : lib.Open V F H → Type 0 = λ x. TailDoes Powers OfFirst OfNext (setting_of g.form i)
+      x.call v (whole s) (left_of m) (outcome_of a (whole t, left_of j)) in
+      let B : Answer (V × Bool) → Type 0 = λ b. JoinDoes Powers OfFirst OfNext (setting_of g.form i)
+      d (outcome_of b (whole s, left_of i)) (outcome_of a (whole t, left_of j)) in
+      (subst B (sym e) (join_goes right v c.0 (subst P is r.0)), r.1)
+
+  -- the value of a tree is that of the expression, and so is a failure
+  pub expression_gives : (level : ℤ) (s t : S × W) (i j : Input T) (v : V) (all : Bool)
+      → TreeRuns (call_at level (units_left g.reading.units i)) s i (Ok (v, all)) t j
+      → ExpressionRuns level s i (Ok v) t j
+  expression_gives level s t i j v all (ends, more, possible, did) =
+      (ends, more, possible, (took (v, all) (whole t, left_of j), did, refl))
+
+  pub expression_fails : (level : ℤ) (s t : S × W) (i j : Input T) (k : Kind)
+      → TreeRuns (call_at level (units_left g.reading.units i)) s i (Err k) t j
+      → ExpressionRuns level s i (Err k) t j
+  expression_fails level s t i j k (ends, more, possible, did) =
+      (ends, more, possible, (outcome_of (Err k) (whole t, left_of j), did, by k))
     where
-      by : (k : Kind) → JoinEnds O at d (outcome_of (Err k) (full s, left_of i))
-          (outcome_of (Err k) (full s, left_of i))
+      by : (k : Kind) → ComesOf {S = Whole} {T = T} (tree_value {V = V}) (setting_of g.form i)
+          (whole s) (left_of i) (outcome_of (Err k) (whole t, left_of j))
+          (outcome_of (Err k) (whole t, left_of j))
       by backtrack = refl
       by cut = refl
       by (incomplete need) = refl
       by memory = refl
-  join_ended d b a s t i j here (inr (inl (right, all, k, e, closes, f))) is =
-      let c = closed d.operator d.call.turn i right (Err k) j here closes in
-      let P : Answer (V × Bool) → Type 0 = λ b.
-      JoinEnds O at d (outcome_of b (full s, left_of i)) (outcome_of a (full t, left_of j)) in
-      let E : Answer (V × Bool) → S × W → Type 0 = λ a t. all_end (full s) all
-      (outcome_of (Err k) (left_of j)) (outcome_of a (full t, left_of j)) in (
-        subst P (sym e) (
-          outcome_of (Err k) (left_of j),
-          c.0,
-          subst (λ a. E a t) (sym f) (subst (λ t. E (Err k) t) (sym is) (by k)),
-        ),
-        c.1,
-      )
-    where
-      by : (k : Kind) → all_end (full s) all (outcome_of {O = V} (Err k) (left_of j))
-          (outcome_of (Err k) (full s, left_of j))
-      by backtrack = refl
-      by cut = refl
-      by (incomplete need) = refl
-      by memory = refl
-  join_ended d b a s t i j here (inr (inr (right, value, e, closes, f))) is =
-      let c = closed d.operator d.call.turn i right (Ok value) j here closes in
-      let P : Answer (V × Bool) → Type 0 = λ b.
-      JoinEnds O at d (outcome_of b (full s, left_of i)) (outcome_of a (full t, left_of j)) in
-      let E : S × W → Outcome (End Q T) (V × Bool) =
-      λ t. took (value, true) (full t, left_of j) in (
-        subst P (sym e)
-            (took value (left_of j), c.0, gave (full t, left_of j) f ∙ ap E is),
-        c.1,
-      )
-
-  mutual
-    tree_did : (call : Call) (s : S × W) (i : Input T) (a : Answer (V × Bool)) (t : S × W)
-        (j : Input T) → Here i → TreeRuns Parts call s i a t j
-        → TreeDoes O One Two at call (full s) (left_of i)
-        (outcome_of a (full t, left_of j)) × Here j
-    tree_did _ _ _ _ _ _ here (call_ends call s t i j k a ended same e) =
-        let d = tree_ended p level call s t i j k a here ended same e in (tree_ends d.0, d.1)
-    tree_did _ _ _ _ _ _ here (call_operand call s t u i j m v a read same tail) =
-        let d = first_did p level s u i m (Ok (Operand v)) here read same in
-        let r = tail_did call v u m a t j d.1 tail in
-        (tree_operand v d.0 r.0, r.1)
-    tree_did _ _ _ _ _ _ here
-        (call_prefix call s t u w i j m n x power b a (fold, read, less, is) same inner joined) =
-        let d = first_did p level s u i m (Ok (prefix_read power fold)) here read same in
-        let r = tree_did (call_at power (units m.left.tokens)) u m b w n d.1 inner in
-        let z = join_did (record { operator = inl (power, fold); call = call }) x b w n a t
-        j r.1 joined is in
-        (tree_prefix (power, fold) d.0 less r.0 z.0, z.1)
-
-    tail_did : (call : Call) (v : V) (s : S × W) (i : Input T) (a : Answer (V × Bool))
-        (t : S × W) (j : Input T) → Here i → TailRuns Parts call v s i a t j
-        → TailDoes O One Two at call v (full s) (left_of i)
-        (outcome_of a (full t, left_of j)) × Here j
-    tail_did _ _ _ _ _ _ _ here (turn_ends call v s t i j a ended same) =
-        let d = tail_ended p level call v s t i j a here ended same in (tail_ends d.0, d.1)
-    tail_did _ _ _ _ _ _ _ here
-        (turn_postfix call v r s t u i j m a (power, fold, n, read, reaches, folds, moved) same
-        tail) =
-        let d = next_did p level s u i n (Ok (postfix_read power fold)) here read same in
-        let c = tail_did call r u m a t j
-        (within_end d.1 (p.folds.behind at.form fold n v (Ok r) m folds)) tail in (
-          tail_postfix (power, fold) r d.0 reaches (
-            took r (left_of m),
-            (n, Ok r, m, d.1.setting, refl, folds, refl),
-            inr (moved, refl),
-          ) c.0,
-          c.1,
-        )
-    tail_did _ _ _ _ _ _ _ here
-        (turn_infix call v s t u w i j m n x power b a
-        (o, read, reaches, apart, moved, right, is) same inner joined) =
-        let d = next_did p level s u i m (Ok (infix_read o)) here read same in
-        let r = tree_did (call_at power (units m.left.tokens)) u m b w n d.1 inner in
-        let z = join_did (opened O call v o (left_of i)) x b w n a t j r.1 joined is in
-        let P : ℤ → Type 0 = λ p. TreeDoes O One Two at (call_at p (units m.left.tokens)) (full
-        u) (left_of m) (outcome_of b (full w, left_of n)) in
-        (tail_infix o d.0 (reaches, apart, moved) (subst P right r.0) z.0, z.1)
-
-    join_did : (d : Open V (Prefix F) (Infix H)) (x : lib.Open V F H) (b : Answer (V × Bool))
-        (s : S × W) (i : Input T) (a : Answer (V × Bool)) (t : S × W) (j : Input T) → Here i
-        → JoinedRuns Parts x b s i a t j → x ≡ kept d
-        → JoinDoes O One Two at d (outcome_of b (full s, left_of i))
-        (outcome_of a (full t, left_of j)) × Here j
-    join_did d _ _ _ _ _ _ _ here (resume_ends x b a s t i j ended same) is =
-        let r = join_ended d b a s t i j here (subst (λ x. ResumeEnds Parts x b i a j) is ended)
-        same in
-        (join_ends r.0, r.1)
-    join_did d _ _ _ _ _ _ _ here
-        (resume_goes x b a s t i j m v (right, e, closes) tail) is =
-        let C : lib.Open V F H → Type 0 = λ x.
-        Closes Folds x.operator x.call.turn i right (Ok v) m in
-        let c = closed d.operator d.call.turn i right (Ok v) m here (subst C is closes) in
-        let r = tail_did x.call v s m a t j c.1 tail in
-        let P : lib.Open V F H → Type 0 = λ x. TailDoes O One Two at x.call v (full s)
-        (left_of m) (outcome_of a (full t, left_of j)) in
-        let B : Answer (V × Bool) → Type 0 = λ b. JoinDoes O One Two at d
-        (outcome_of b (full s, left_of i)) (outcome_of a (full t, left_of j)) in
-        (subst B (sym e) (join_goes right v c.0 (subst P is r.0)), r.1)
-
-  pub expression_did : (s : S × W) (i : Input T) (a : Answer V) (t : S × W) (j : Input T)
-      → Here i → ExpressionRuns Parts level s i a t j
-      → TreesDo O One Two level at (full s) (left_of i) (outcome_of a (full t, left_of j))
-      × Here j
-  expression_did s i (Ok v) t j here (all, r) =
-      let d = tree_did (call_at level (units i.left.tokens)) s i (Ok (v, all)) t j here r in
-      ((took (v, all) (full t, left_of j), d.0, refl), d.1)
-  expression_did s i (Err k) t j here r =
-      let d = tree_did (call_at level (units i.left.tokens)) s i (Err k) t j here r in
-      ((outcome_of (Err k) (full t, left_of j), d.0, by k), d.1)
-    where
-      by : (k : Kind) → ComesOf {S = Q} {T = T} (tree_value {V = V}) at (full s) (left_of i)
-          (outcome_of (Err k) (full t, left_of j)) (outcome_of (Err k) (full t, left_of j))
-      by backtrack = refl
-      by cut = refl
-      by (incomplete need) = refl
-      by memory = refl
-
--- A call of an expression over parts that are covered; its level is a part of the state.
-pub leveled_ran : {S W T L V F G H : Type 0} (reading : Reading T L) (form : ErrorForm)
-    {before : DoesUnary F T V} {behind : DoesUnary G T V} {between : DoesBinary H T V}
-    {first : Runs S T (First V F)} {next : Runs W T (Next G H)} (one : Does S T (V ⊎ Prefix F))
-    (two : Does W T (Option (Postfix G ⊎ Infix H)))
-    → FoldsLeaveEnds reading before behind between → (s : S × W × ℤ) (i : Input T)
-    → Reads reading (setting_of form i) i first (OutputAs first_side one)
-    → Reads reading (setting_of form i) i next (OutputAs next_side two)
-    → (a : Answer V) (t : S × W × ℤ) (j : Input T)
-    → LeveledRuns (grammar first next (behind form) (folding (before form) (between form)
-    reading.units (assert_kind form))) s i a t j
-    → Ran reading (LeveledDo (operators reading.units before behind between) one two) form s i a t j
-leveled_ran reading form {before} {behind} {between} {first} {next} one two folds s i h1 h2 a t j =
-    let at = setting_of form i in
-    let p : PartsCovered reading at i before behind between first next one two =
-    record { reads_first = h1; reads_next = h2; folds = folds } in
-    reads_ran reading form {run = LeveledRuns (Parts p s.2)}
-    {does = LeveledDo (operators reading.units before behind between) one two} s i a t j (record {
-      reads = λ s i a t j here (run, same).
-          let d = expression_did p s.2 (s.0, s.1) i a (t.0, t.1) j here run in
-          let P : ℤ → Type 0 = λ n. LeveledDo (operators reading.units before behind between) one
-          two at s (left_of i) (outcome_of a ((t.0, t.1, n), left_of j)) in
-          (subst P (sym same) d.0, d.1);
-    })
-
--- a call of the machine over parts with definitions
-pub trees_ran : {S W T V L F G H : Type 0} (reading : Reading T L) (form : ErrorForm)
-    {before : DoesUnary F T V} {behind : DoesUnary G T V} {between : DoesBinary H T V}
-    (one : Does S T (V ⊎ Prefix F)) (two : Does W T (Option (Postfix G ⊎ Infix H)))
-    → FoldsLeaveEnds reading before behind between
-    → (level given : ℤ) (s : S × W) (i : Input T) (a : Answer V) (t : S × W) (j : Input T)
-    → ExpressionRuns (grammar (Ran reading (OutputAs first_side one) form)
-    (Ran reading (OutputAs next_side two) form) (behind form) (folding (before form) (between form)
-    reading.units (assert_kind form))) given s i a t j → given ≡ level
-    → Ran reading (LeveledDo (operators reading.units before behind between) one two) form
-    (s.0, s.1, level) i a (t.0, t.1, level) j
-trees_ran reading form {before} {behind} {between} one two folds level given s i a t j run same =
-    let at = setting_of form i in
-    let first = OutputAs first_side one in
-    let next = OutputAs next_side two in
-    let P : ℤ → Type 0 = λ l.
-    Ran reading (LeveledDo (operators reading.units before behind between) one two) form
-    (s.0, s.1, l) i a (t.0, t.1, l) j in
-    subst P same (leveled_ran reading form one two folds (s.0, s.1, given) i
-    (ran_reads reading first at i) (ran_reads reading next at i) a
-    (t.0, t.1, given) j (run, refl))

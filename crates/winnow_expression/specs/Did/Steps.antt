@@ -15,7 +15,7 @@ use Rattle.parser_definitions.specs.Then.Steps.{In}
 use Rattle.winnow_core.specs.Settings.{at_end}
 use Rattle.winnow_core.specs.Runs.{Runs}
 use Rattle.winnow_expression.specs.Covers.Steps.{misuse}
-use Rattle.winnow_expression.specs.Covers.Trees.{operator_kept}
+use Rattle.winnow_expression.specs.Covers.Opens.{operator_kept}
 use Rattle.winnow_expression.specs.Definition.{Folded, operators}
 use Rattle.winnow_expression.specs.Did.{Came, came_in, here, is_here}
 use Rattle.winnow_expression.specs.Did.Parts.{as_first, as_next, first_came, next_came}

@@ -4,8 +4,9 @@ ghost use Rattle.std.specs.Prelude.{reverse};
 ghost use Rattle.stream_errors.specs.Form.{answer_by, assert_kind};
 ghost use Rattle.streams.specs.Input.{IsEndOf};
 ghost use Rattle.winnow_expression.specs.Calls.{call_of, calls_of, opens_of};
-ghost use Rattle.winnow_expression.specs.Expression.{ExpressionRuns};
-ghost use Rattle.winnow_expression.specs.Grammar.{Closes, folding, grammar};
+ghost use Rattle.winnow_expression.specs.Covers.Trees.{first_from, next_from};
+ghost use Rattle.winnow_expression.specs.Definition.{LeveledDo, OutputAs, operators};
+ghost use Rattle.winnow_expression.specs.Grammar.{Closes, folding};
 ghost use Rattle.winnow_expression.specs.Machine.{AllEnd, EndsToo, InfixTurn, OperandStep};
 ghost use Rattle.winnow_expression.specs.Machine.{PostfixTurn, PrefixedOperand, TurnStep};
 
@@ -270,12 +271,11 @@ pub fn expression_from<
     requires first { P.can_parse first.old }
     requires next { Q.can_parse next.old }
     ensures again { P.can_parse first.new × Q.can_parse next.new }
-    ensures ran { ExpressionRuns
-        (grammar (Ran I.reading P.does E.form) (Ran I.reading Q.does E.form) (G.folds E.form)
-        (folding (F.folds E.form) (H.folds E.form) I.reading.units (assert_kind E.form)))
-        level
-        (P.state first.old, Q.state next.old) (I.view input.old) (answer_by E.kind result)
-        (P.state first.new, Q.state next.new) (I.view input.new) }
+    ensures ran { Ran I.reading (LeveledDo
+        (operators I.reading.units F.folds G.folds H.folds)
+        (OutputAs first_from P.does) (OutputAs next_from Q.does)) E.form
+        (P.state first.old, Q.state next.old, level) (I.view input.old) (answer_by E.kind result)
+        (P.state first.new, Q.state next.new, level) (I.view input.new) }
     ensures ends { IsEndOf I.reading (I.view input.new) (I.view input.old) }
 {
     let units = input.eof_offset();

@@ -1,7 +1,7 @@
 use Rattle.parser_definitions.specs.Does.{Ran}
 use Rattle.std.proofs.Common.{rules, refl}
 use Rattle.winnow_expression.specs.Calls.{calls_of, open_of, opens_of}
-use Rattle.winnow_expression.specs.Grammar.{folding, grammar}
+use Rattle.winnow_expression.specs.Covers.Trees.{made}
 use Rattle.winnow_expression.proofs.EndLemmas.{opens_last, opens_none}
 use Rattle.streams.specs.Input.{is_end_of_trans, is_end_of_trans3}
 use Rattle.stream_errors.specs.Form.{assert_kind}
@@ -17,19 +17,21 @@ use Rattle.winnow_expression.proofs.combinator.machine.expression_from.Goals as 
 pub returns-in_err-left-clause-ran : goal.returns-in_err-left-clause-ran
 returns-in_err-left-clause-ran g c =
     let form = g.E.HasKind.form in
-    let whole = grammar (Ran g.I.Stream.reading g.P.Parser.does form)
-    (Ran g.I.Stream.reading g.Q.Parser.does form) (g.G.FoldUnary.folds form)
-    (folding (g.F.FoldUnary.folds form) (g.H.FoldBinary.folds form) g.I.Stream.reading.units
-    (assert_kind form)) in
+    let whole = made g.I.Stream.reading g.E.HasKind.form g.P.Parser.does g.Q.Parser.does
+    g.F.FoldUnary.folds g.G.FoldUnary.folds g.H.FoldBinary.folds (record {
+      before = g.met.F.FoldUnary.leaves_ends;
+      behind = g.met.G.FoldUnary.leaves_ends;
+      between = g.met.H.FoldBinary.leaves_ends;
+    }) in
     let start : g.P.Parser.State × g.Q.Parser.State =
     (g.P.Parser.state c.args.first.now, g.Q.Parser.state c.args.next.now) in
-    operands_end whole c.args.level c.args.level start (g.I.Stream.view c.args.input.now)
+    operands_end (whole c.args.level) c.args.level start (g.I.Stream.view c.args.input.now)
     (calls_of c.new-call.result c.new-operators.result.items)
     (calls_of c.operand_with_prefixes.new.call c.operand_with_prefixes.new.operators.items) _ _
     (g.E.HasKind.kind c.in_err-left.field-0.0) start
     (g.P.Parser.state c.operand_with_prefixes.new.first) (g.I.Stream.view c.args.input.now)
     (g.I.Stream.view c.operand_with_prefixes.new.input) refl
-    (stands_start whole c.args.level _ _ start (g.I.Stream.view c.args.input.now)
+    (stands_start (whole c.args.level) c.args.level _ _ start (g.I.Stream.view c.args.input.now)
     (calls_of c.new-call.result c.new-operators.result.items) (search rules depth 1)
     c.eof_offset-units.ensures c.new-call.ensures (opens_none _ c.new-operators.ensures.items)) refl
     c.in_err-left.ensures.ran (search rules depth 1)
@@ -37,19 +39,21 @@ returns-in_err-left-clause-ran g c =
 pub turns-init : goal.turns-init
 turns-init g c =
     let form = g.E.HasKind.form in
-    let whole = grammar (Ran g.I.Stream.reading g.P.Parser.does form)
-    (Ran g.I.Stream.reading g.Q.Parser.does form) (g.G.FoldUnary.folds form)
-    (folding (g.F.FoldUnary.folds form) (g.H.FoldBinary.folds form) g.I.Stream.reading.units
-    (assert_kind form)) in
+    let whole = made g.I.Stream.reading g.E.HasKind.form g.P.Parser.does g.Q.Parser.does
+    g.F.FoldUnary.folds g.G.FoldUnary.folds g.H.FoldBinary.folds (record {
+      before = g.met.F.FoldUnary.leaves_ends;
+      behind = g.met.G.FoldUnary.leaves_ends;
+      between = g.met.H.FoldBinary.leaves_ends;
+    }) in
     let start : g.P.Parser.State × g.Q.Parser.State =
     (g.P.Parser.state c.args.first.now, g.Q.Parser.state c.args.next.now) in (
-      (operands_kept whole _ start (g.I.Stream.view c.args.input.now)
+      (operands_kept (whole _) _ start (g.I.Stream.view c.args.input.now)
           (calls_of c.new-call.result c.new-operators.result.items)
           (calls_of c.operand_with_prefixes.new.call c.operand_with_prefixes.new.operators.items)
           c.in_ok-left.left _
           start (g.P.Parser.state c.operand_with_prefixes.new.first)
           (g.I.Stream.view c.args.input.now) (g.I.Stream.view c.operand_with_prefixes.new.input)
-          (stands_start whole _ _ _ start (g.I.Stream.view c.args.input.now)
+          (stands_start (whole _) _ _ _ start (g.I.Stream.view c.args.input.now)
           (calls_of c.new-call.result c.new-operators.result.items) (search rules depth 1)
           c.eof_offset-units.ensures c.new-call.ensures
           (opens_none _ c.new-operators.ensures.items)) refl c.in_ok-left.ensures.ran).0,
@@ -61,13 +65,15 @@ turns-init g c =
 pub returns-in_err-value-clause-ran : goal.returns-in_err-value-clause-ran
 returns-in_err-value-clause-ran g c =
     let form = g.E.HasKind.form in
-    let whole = grammar (Ran g.I.Stream.reading g.P.Parser.does form)
-    (Ran g.I.Stream.reading g.Q.Parser.does form) (g.G.FoldUnary.folds form)
-    (folding (g.F.FoldUnary.folds form) (g.H.FoldBinary.folds form) g.I.Stream.reading.units
-    (assert_kind form)) in
+    let whole = made g.I.Stream.reading g.E.HasKind.form g.P.Parser.does g.Q.Parser.does
+    g.F.FoldUnary.folds g.G.FoldUnary.folds g.H.FoldBinary.folds (record {
+      before = g.met.F.FoldUnary.leaves_ends;
+      behind = g.met.G.FoldUnary.leaves_ends;
+      between = g.met.H.FoldBinary.leaves_ends;
+    }) in
     let start : g.P.Parser.State × g.Q.Parser.State =
     (g.P.Parser.state c.args.first.now, g.Q.Parser.state c.args.next.now) in
-    turn_ends_whole whole c.args.level _ start (g.I.Stream.view c.args.input.now)
+    turn_ends_whole (whole _) c.args.level start (g.I.Stream.view c.args.input.now)
     (calls_of c.turns.call c.turns.operators.items)
     (calls_of c.turn_step.new.call c.turn_step.new.operators.items) c.turns.left _
     (g.E.HasKind.kind c.in_err-value.field-0.0) (
@@ -85,13 +91,15 @@ returns-in_err-value-clause-ends g c =
 pub turns-smaller-in-Goes : goal.turns-smaller-in-Goes
 turns-smaller-in-Goes g c =
     let form = g.E.HasKind.form in
-    let whole = grammar (Ran g.I.Stream.reading g.P.Parser.does form)
-    (Ran g.I.Stream.reading g.Q.Parser.does form) (g.G.FoldUnary.folds form)
-    (folding (g.F.FoldUnary.folds form) (g.H.FoldBinary.folds form) g.I.Stream.reading.units
-    (assert_kind form)) in
+    let whole = made g.I.Stream.reading g.E.HasKind.form g.P.Parser.does g.Q.Parser.does
+    g.F.FoldUnary.folds g.G.FoldUnary.folds g.H.FoldBinary.folds (record {
+      before = g.met.F.FoldUnary.leaves_ends;
+      behind = g.met.G.FoldUnary.leaves_ends;
+      between = g.met.H.FoldBinary.leaves_ends;
+    }) in
     let start : g.P.Parser.State × g.Q.Parser.State =
     (g.P.Parser.state c.args.first.now, g.Q.Parser.state c.args.next.now) in
-    (postfix_kept whole _ start (g.I.Stream.view c.args.input.now)
+    (postfix_kept (whole _) _ start (g.I.Stream.view c.args.input.now)
     (calls_of c.turns.call c.turns.operators.items)
     (calls_of c.turn_step.new.call c.turn_step.new.operators.items) c.turns.left c.in-Goes.value
     (g.P.Parser.state c.turns.first, g.Q.Parser.state c.turns.next)
@@ -108,13 +116,15 @@ turns-smaller-in-Goes g c =
 pub turns-preserved-in-Goes : goal.turns-preserved-in-Goes
 turns-preserved-in-Goes g c =
     let form = g.E.HasKind.form in
-    let whole = grammar (Ran g.I.Stream.reading g.P.Parser.does form)
-    (Ran g.I.Stream.reading g.Q.Parser.does form) (g.G.FoldUnary.folds form)
-    (folding (g.F.FoldUnary.folds form) (g.H.FoldBinary.folds form) g.I.Stream.reading.units
-    (assert_kind form)) in
+    let whole = made g.I.Stream.reading g.E.HasKind.form g.P.Parser.does g.Q.Parser.does
+    g.F.FoldUnary.folds g.G.FoldUnary.folds g.H.FoldBinary.folds (record {
+      before = g.met.F.FoldUnary.leaves_ends;
+      behind = g.met.G.FoldUnary.leaves_ends;
+      between = g.met.H.FoldBinary.leaves_ends;
+    }) in
     let start : g.P.Parser.State × g.Q.Parser.State =
     (g.P.Parser.state c.args.first.now, g.Q.Parser.state c.args.next.now) in (
-      (postfix_kept whole _ start (g.I.Stream.view c.args.input.now)
+      (postfix_kept (whole _) _ start (g.I.Stream.view c.args.input.now)
           (calls_of c.turns.call c.turns.operators.items)
           (calls_of c.turn_step.new.call c.turn_step.new.operators.items) c.turns.left
           c.in-Goes.value (g.P.Parser.state c.turns.first, g.Q.Parser.state c.turns.next)
@@ -138,13 +148,15 @@ pub returns-in_err-left-in-Interrupted-clause-ran :
     goal.returns-in_err-left-in-Interrupted-clause-ran
 returns-in_err-left-in-Interrupted-clause-ran g c =
     let form = g.E.HasKind.form in
-    let whole = grammar (Ran g.I.Stream.reading g.P.Parser.does form)
-    (Ran g.I.Stream.reading g.Q.Parser.does form) (g.G.FoldUnary.folds form)
-    (folding (g.F.FoldUnary.folds form) (g.H.FoldBinary.folds form) g.I.Stream.reading.units
-    (assert_kind form)) in
+    let whole = made g.I.Stream.reading g.E.HasKind.form g.P.Parser.does g.Q.Parser.does
+    g.F.FoldUnary.folds g.G.FoldUnary.folds g.H.FoldBinary.folds (record {
+      before = g.met.F.FoldUnary.leaves_ends;
+      behind = g.met.G.FoldUnary.leaves_ends;
+      between = g.met.H.FoldBinary.leaves_ends;
+    }) in
     let start : g.P.Parser.State × g.Q.Parser.State =
     (g.P.Parser.state c.args.first.now, g.Q.Parser.state c.args.next.now) in
-    let interrupted = infix_kept whole _ start (g.I.Stream.view c.args.input.now)
+    let interrupted = infix_kept (whole _) _ start (g.I.Stream.view c.args.input.now)
     (calls_of c.turns.call c.turns.operators.items)
     (calls_of c.turn_step.new.call c.turn_step.new.operators.items) c.turns.left
     (g.P.Parser.state c.turns.first, g.Q.Parser.state c.turns.next)
@@ -157,7 +169,7 @@ returns-in_err-left-in-Interrupted-clause-ran g c =
     (g.Q.Parser.state c.turn_step.new.next) (g.I.Stream.view c.turns.input)
     (g.I.Stream.view c.turn_step.new.input) _ _ c.in-Interrupted.is c.in_ok-value.ensures.ran)
     (ends_less g.I.Stream.reading _ _ c.turn_step.ensures.ends) in
-    operands_end whole c.args.level _ start (g.I.Stream.view c.args.input.now)
+    operands_end (whole _) c.args.level start (g.I.Stream.view c.args.input.now)
     (calls_of c.turn_step.new.call c.turn_step.new.operators.items)
     (calls_of c.operand_with_prefixes-in-Interrupted.new.call
     c.operand_with_prefixes-in-Interrupted.new.operators.items) _ _
@@ -177,13 +189,15 @@ returns-in_err-left-in-Interrupted-clause-ends g c =
 pub turns-smaller-in-Interrupted : goal.turns-smaller-in-Interrupted
 turns-smaller-in-Interrupted g c =
     let form = g.E.HasKind.form in
-    let whole = grammar (Ran g.I.Stream.reading g.P.Parser.does form)
-    (Ran g.I.Stream.reading g.Q.Parser.does form) (g.G.FoldUnary.folds form)
-    (folding (g.F.FoldUnary.folds form) (g.H.FoldBinary.folds form) g.I.Stream.reading.units
-    (assert_kind form)) in
+    let whole = made g.I.Stream.reading g.E.HasKind.form g.P.Parser.does g.Q.Parser.does
+    g.F.FoldUnary.folds g.G.FoldUnary.folds g.H.FoldBinary.folds (record {
+      before = g.met.F.FoldUnary.leaves_ends;
+      behind = g.met.G.FoldUnary.leaves_ends;
+      between = g.met.H.FoldBinary.leaves_ends;
+    }) in
     let start : g.P.Parser.State × g.Q.Parser.State =
     (g.P.Parser.state c.args.first.now, g.Q.Parser.state c.args.next.now) in
-    let interrupted = infix_kept whole _ start (g.I.Stream.view c.args.input.now)
+    let interrupted = infix_kept (whole _) _ start (g.I.Stream.view c.args.input.now)
     (calls_of c.turns.call c.turns.operators.items)
     (calls_of c.turn_step.new.call c.turn_step.new.operators.items) c.turns.left
     (g.P.Parser.state c.turns.first, g.Q.Parser.state c.turns.next)
@@ -196,7 +210,7 @@ turns-smaller-in-Interrupted g c =
     (g.Q.Parser.state c.turn_step.new.next) (g.I.Stream.view c.turns.input)
     (g.I.Stream.view c.turn_step.new.input) _ _ c.in-Interrupted.is c.in_ok-value.ensures.ran)
     (ends_less g.I.Stream.reading _ _ c.turn_step.ensures.ends) in
-    falls_on (operands_kept whole _ start (g.I.Stream.view c.args.input.now)
+    falls_on (operands_kept (whole _) _ start (g.I.Stream.view c.args.input.now)
     (calls_of c.turn_step.new.call c.turn_step.new.operators.items)
     (calls_of c.operand_with_prefixes-in-Interrupted.new.call
     c.operand_with_prefixes-in-Interrupted.new.operators.items) c.in_ok-left-in-Interrupted.left _
@@ -209,13 +223,15 @@ turns-smaller-in-Interrupted g c =
 pub turns-preserved-in-Interrupted : goal.turns-preserved-in-Interrupted
 turns-preserved-in-Interrupted g c =
     let form = g.E.HasKind.form in
-    let whole = grammar (Ran g.I.Stream.reading g.P.Parser.does form)
-    (Ran g.I.Stream.reading g.Q.Parser.does form) (g.G.FoldUnary.folds form)
-    (folding (g.F.FoldUnary.folds form) (g.H.FoldBinary.folds form) g.I.Stream.reading.units
-    (assert_kind form)) in
+    let whole = made g.I.Stream.reading g.E.HasKind.form g.P.Parser.does g.Q.Parser.does
+    g.F.FoldUnary.folds g.G.FoldUnary.folds g.H.FoldBinary.folds (record {
+      before = g.met.F.FoldUnary.leaves_ends;
+      behind = g.met.G.FoldUnary.leaves_ends;
+      between = g.met.H.FoldBinary.leaves_ends;
+    }) in
     let start : g.P.Parser.State × g.Q.Parser.State =
     (g.P.Parser.state c.args.first.now, g.Q.Parser.state c.args.next.now) in
-    let interrupted = infix_kept whole _ start (g.I.Stream.view c.args.input.now)
+    let interrupted = infix_kept (whole _) _ start (g.I.Stream.view c.args.input.now)
     (calls_of c.turns.call c.turns.operators.items)
     (calls_of c.turn_step.new.call c.turn_step.new.operators.items) c.turns.left
     (g.P.Parser.state c.turns.first, g.Q.Parser.state c.turns.next)
@@ -228,7 +244,7 @@ turns-preserved-in-Interrupted g c =
     (g.Q.Parser.state c.turn_step.new.next) (g.I.Stream.view c.turns.input)
     (g.I.Stream.view c.turn_step.new.input) _ _ c.in-Interrupted.is c.in_ok-value.ensures.ran)
     (ends_less g.I.Stream.reading _ _ c.turn_step.ensures.ends) in (
-      (operands_kept whole _ start (g.I.Stream.view c.args.input.now)
+      (operands_kept (whole _) _ start (g.I.Stream.view c.args.input.now)
           (calls_of c.turn_step.new.call c.turn_step.new.operators.items)
           (calls_of c.operand_with_prefixes-in-Interrupted.new.call
           c.operand_with_prefixes-in-Interrupted.new.operators.items)
@@ -247,13 +263,15 @@ turns-preserved-in-Interrupted g c =
 pub returns-in_err-left-in-Some-clause-ran : goal.returns-in_err-left-in-Some-clause-ran
 returns-in_err-left-in-Some-clause-ran g c =
     let form = g.E.HasKind.form in
-    let whole = grammar (Ran g.I.Stream.reading g.P.Parser.does form)
-    (Ran g.I.Stream.reading g.Q.Parser.does form) (g.G.FoldUnary.folds form)
-    (folding (g.F.FoldUnary.folds form) (g.H.FoldBinary.folds form) g.I.Stream.reading.units
-    (assert_kind form)) in
+    let whole = made g.I.Stream.reading g.E.HasKind.form g.P.Parser.does g.Q.Parser.does
+    g.F.FoldUnary.folds g.G.FoldUnary.folds g.H.FoldBinary.folds (record {
+      before = g.met.F.FoldUnary.leaves_ends;
+      behind = g.met.G.FoldUnary.leaves_ends;
+      between = g.met.H.FoldBinary.leaves_ends;
+    }) in
     let start : g.P.Parser.State × g.Q.Parser.State =
     (g.P.Parser.state c.args.first.now, g.Q.Parser.state c.args.next.now) in
-    close_ends whole c.args.level _ start (g.I.Stream.view c.args.input.now)
+    close_ends (whole _) c.args.level start (g.I.Stream.view c.args.input.now)
     (calls_of c.turns.call c.turns.operators.items)
     (calls_of c.turn_step.new.call c.turn_step.new.operators.items) c.turns.left c.in-Ends.value _
     (g.E.HasKind.kind c.in_err-left-in-Some.field-0.0)
@@ -277,13 +295,15 @@ returns-in_err-left-in-Some-clause-ends g c =
 pub turns-smaller : goal.turns-smaller
 turns-smaller g c =
     let form = g.E.HasKind.form in
-    let whole = grammar (Ran g.I.Stream.reading g.P.Parser.does form)
-    (Ran g.I.Stream.reading g.Q.Parser.does form) (g.G.FoldUnary.folds form)
-    (folding (g.F.FoldUnary.folds form) (g.H.FoldBinary.folds form) g.I.Stream.reading.units
-    (assert_kind form)) in
+    let whole = made g.I.Stream.reading g.E.HasKind.form g.P.Parser.does g.Q.Parser.does
+    g.F.FoldUnary.folds g.G.FoldUnary.folds g.H.FoldBinary.folds (record {
+      before = g.met.F.FoldUnary.leaves_ends;
+      behind = g.met.G.FoldUnary.leaves_ends;
+      between = g.met.H.FoldBinary.leaves_ends;
+    }) in
     let start : g.P.Parser.State × g.Q.Parser.State =
     (g.P.Parser.state c.args.first.now, g.Q.Parser.state c.args.next.now) in
-    (close_kept whole _ start (g.I.Stream.view c.args.input.now)
+    (close_kept (whole _) _ start (g.I.Stream.view c.args.input.now)
     (calls_of c.turns.call c.turns.operators.items)
     (calls_of c.turn_step.new.call c.turn_step.new.operators.items)
     (calls_of c.in-Some.above.call c.pop.new.self.items) c.turns.left c.in-Ends.value
@@ -305,13 +325,15 @@ turns-smaller g c =
 pub turns-preserved : goal.turns-preserved
 turns-preserved g c =
     let form = g.E.HasKind.form in
-    let whole = grammar (Ran g.I.Stream.reading g.P.Parser.does form)
-    (Ran g.I.Stream.reading g.Q.Parser.does form) (g.G.FoldUnary.folds form)
-    (folding (g.F.FoldUnary.folds form) (g.H.FoldBinary.folds form) g.I.Stream.reading.units
-    (assert_kind form)) in
+    let whole = made g.I.Stream.reading g.E.HasKind.form g.P.Parser.does g.Q.Parser.does
+    g.F.FoldUnary.folds g.G.FoldUnary.folds g.H.FoldBinary.folds (record {
+      before = g.met.F.FoldUnary.leaves_ends;
+      behind = g.met.G.FoldUnary.leaves_ends;
+      between = g.met.H.FoldBinary.leaves_ends;
+    }) in
     let start : g.P.Parser.State × g.Q.Parser.State =
     (g.P.Parser.state c.args.first.now, g.Q.Parser.state c.args.next.now) in (
-      (close_kept whole _ start (g.I.Stream.view c.args.input.now)
+      (close_kept (whole _) _ start (g.I.Stream.view c.args.input.now)
           (calls_of c.turns.call c.turns.operators.items)
           (calls_of c.turn_step.new.call c.turn_step.new.operators.items)
           (calls_of c.in-Some.above.call c.pop.new.self.items) c.turns.left c.in-Ends.value
@@ -339,13 +361,15 @@ turns-preserved g c =
 pub returns-in-None-clause-ran : goal.returns-in-None-clause-ran
 returns-in-None-clause-ran g c =
     let form = g.E.HasKind.form in
-    let whole = grammar (Ran g.I.Stream.reading g.P.Parser.does form)
-    (Ran g.I.Stream.reading g.Q.Parser.does form) (g.G.FoldUnary.folds form)
-    (folding (g.F.FoldUnary.folds form) (g.H.FoldBinary.folds form) g.I.Stream.reading.units
-    (assert_kind form)) in
+    let whole = made g.I.Stream.reading g.E.HasKind.form g.P.Parser.does g.Q.Parser.does
+    g.F.FoldUnary.folds g.G.FoldUnary.folds g.H.FoldBinary.folds (record {
+      before = g.met.F.FoldUnary.leaves_ends;
+      behind = g.met.G.FoldUnary.leaves_ends;
+      between = g.met.H.FoldBinary.leaves_ends;
+    }) in
     let start : g.P.Parser.State × g.Q.Parser.State =
     (g.P.Parser.state c.args.first.now, g.Q.Parser.state c.args.next.now) in
-    call_ends_whole whole c.args.level _ start (g.I.Stream.view c.args.input.now)
+    call_ends_whole (whole _) c.args.level start (g.I.Stream.view c.args.input.now)
     (calls_of c.turns.call c.turns.operators.items)
     (calls_of c.turn_step.new.call c.turn_step.new.operators.items) c.turns.left c.in-Ends.value
     (g.P.Parser.state c.turns.first, g.Q.Parser.state c.turns.next)
@@ -367,13 +391,15 @@ returns-in-None-clause-ends g c =
 pub returns-in-EndsAll-clause-ran : goal.returns-in-EndsAll-clause-ran
 returns-in-EndsAll-clause-ran g c =
     let form = g.E.HasKind.form in
-    let whole = grammar (Ran g.I.Stream.reading g.P.Parser.does form)
-    (Ran g.I.Stream.reading g.Q.Parser.does form) (g.G.FoldUnary.folds form)
-    (folding (g.F.FoldUnary.folds form) (g.H.FoldBinary.folds form) g.I.Stream.reading.units
-    (assert_kind form)) in
+    let whole = made g.I.Stream.reading g.E.HasKind.form g.P.Parser.does g.Q.Parser.does
+    g.F.FoldUnary.folds g.G.FoldUnary.folds g.H.FoldBinary.folds (record {
+      before = g.met.F.FoldUnary.leaves_ends;
+      behind = g.met.G.FoldUnary.leaves_ends;
+      between = g.met.H.FoldBinary.leaves_ends;
+    }) in
     let start : g.P.Parser.State × g.Q.Parser.State =
     (g.P.Parser.state c.args.first.now, g.Q.Parser.state c.args.next.now) in
-    all_ends_whole whole c.args.level _ start (g.I.Stream.view c.args.input.now)
+    all_ends_whole (whole _) c.args.level start (g.I.Stream.view c.args.input.now)
     (calls_of c.turns.call c.turns.operators.items)
     (calls_of c.turn_step.new.call c.turn_step.new.operators.items) c.turns.left c.in-EndsAll.value
     _ (g.P.Parser.state c.turns.first, g.Q.Parser.state c.turns.next)

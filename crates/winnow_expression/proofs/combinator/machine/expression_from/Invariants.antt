@@ -1,8 +1,6 @@
-use Rattle.parser_definitions.specs.Does.{Ran}
 use Rattle.std.proofs.Common.{Some, reverse}
-use Rattle.winnow_expression.specs.Grammar.{folding, grammar}
+use Rattle.winnow_expression.specs.Covers.Trees.{made}
 use Rattle.streams.specs.Input.{IsEndOf}
-use Rattle.stream_errors.specs.Form.{assert_kind}
 use Rattle.winnow_expression.specs.Units.{units_left}
 use Rattle.winnow_expression.specs.Calls.{call_of, calls_of, opens_of}
 use Rattle.parser_definitions.specs.Expression.{call_at}
@@ -11,12 +9,12 @@ use Rattle.winnow_expression.proofs.combinator.machine.expression_from.Given as 
 
 abbrev pub invariant-turns : goal.invariant-turns
 invariant-turns g l =
-    Invariant (grammar (Ran g.I.Stream.reading g.P.Parser.does g.E.HasKind.form)
-    (Ran g.I.Stream.reading g.Q.Parser.does g.E.HasKind.form)
-    (g.G.FoldUnary.folds g.E.HasKind.form)
-    (folding (g.F.FoldUnary.folds g.E.HasKind.form)
-    (g.H.FoldBinary.folds g.E.HasKind.form) g.I.Stream.reading.units
-    (assert_kind g.E.HasKind.form)))
+    Invariant (made g.I.Stream.reading g.E.HasKind.form g.P.Parser.does g.Q.Parser.does
+    g.F.FoldUnary.folds g.G.FoldUnary.folds g.H.FoldBinary.folds (record {
+      before = g.met.F.FoldUnary.leaves_ends;
+      behind = g.met.G.FoldUnary.leaves_ends;
+      between = g.met.H.FoldBinary.leaves_ends;
+    }) l.fn.level)
     (call_at l.fn.level (units_left g.I.Stream.reading.units (g.I.Stream.view l.fn.input)))
     (g.P.Parser.state l.fn.first, g.Q.Parser.state l.fn.next) (g.I.Stream.view l.fn.input)
     (calls_of l.call l.operators.items) (Some l.left)

@@ -31,6 +31,21 @@ Ends refused of (cuts l) = refused cut (of l)
 Ends refused of (asks need l) = refused (incomplete need) (of l)
 Ends {T} refused of wants = (l : Left T) × refused memory l
 
+pub any_fine : {L O : Type 0} (y : Outcome L O) → Fine (λ k. ⊤) y
+any_fine (took o l) = tt
+any_fine (backs l) = tt
+any_fine (cuts l) = tt
+any_fine (asks need l) = tt
+any_fine wants = tt
+
+pub no_ends : {X T Q V : Type 0} (y : Outcome (End Q T) V)
+    → Ends {T = T} (λ k l. ⊥) (λ e. e.1) y → X
+no_ends (took o l) none = absurd none
+no_ends (backs l) none = absurd none
+no_ends (cuts l) none = absurd none
+no_ends (asks need l) none = absurd none
+no_ends wants none = absurd none.1
+
 module _ {Q T V X Y Z : Type 0} (g : Operators T V X Y Z) (one other_one : Does Q T (V ⊎ X))
     (two other_two : Does Q T (Option (Y ⊎ Z))) (before : Unary X T V) (behind : Unary Y T V)
     (between : Binary Z T V) (at : Setting) (Allowed : Kind → Type 0)
