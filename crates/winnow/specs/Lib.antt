@@ -280,6 +280,7 @@ pub use Rattle.winnow_expression.specs.Operators
 pub use Rattle.winnow_expression.specs.Parts
 pub use Rattle.winnow_expression.specs.Places
 pub use Rattle.winnow_expression.specs.Units
+pub use Rattle.winnow_expression.specs.Within
 -- The trees of operator expressions: a call gives the value of the only tree over its reading that
 -- respects precedence.
 pub use Rattle.winnow_expression_trees.specs.Accepting

@@ -30,12 +30,6 @@ use Rattle.winnow_expression.specs.Grammar.{CallEnds, Closes, Grammar, Infixes, 
 use Rattle.winnow_expression.specs.Grammar.{Prefixes, ResumeEnds, ResumeGoes, TurnEnds, folding}
 use Rattle.winnow_expression.specs.Grammar.{grammar}
 use Rattle.winnow_expression.specs.Units.{units_left}
-use Rattle.winnow_expression.specs.declared.combinator.calls.Operator.TheVariants.{
-  Prefix as prefix_open,
-}
-use Rattle.winnow_expression.specs.declared.combinator.calls.Operator.TheVariants.{
-  Infix as infix_open,
-}
 use Rattle.winnow_expression.specs.declared.combinator.operators.Infix.{Infix}
 use Rattle.winnow_expression.specs.declared.combinator.operators.Postfix.{Postfix}
 use Rattle.winnow_expression.specs.declared.combinator.operators.Prefix.{Prefix}
