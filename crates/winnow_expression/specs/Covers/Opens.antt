@@ -11,7 +11,7 @@ use Rattle.parser_definitions.specs.Expression.{checked}
 use Rattle.parser_definitions.specs.Left.{End, left_of}
 use Rattle.parser_definitions.specs.Outcome.{Does, Outcome, Setting}
 use Rattle.parser_definitions.specs.Outcome.{outcome_of, took}
-use Rattle.winnow_core.specs.Covers.{gave}
+use Rattle.winnow_core.specs.Results.{gave}
 use Rattle.winnow_core.specs.Runs.{Runs}
 use Rattle.winnow_expression.specs.Covers.Steps as step
 use Rattle.winnow_expression.specs.Covers.{Within, within_end}

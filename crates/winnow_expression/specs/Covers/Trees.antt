@@ -17,9 +17,9 @@ use Rattle.parser_definitions.specs.Outcome.{Does, Outcome, asks, backs, cuts}
 use Rattle.parser_definitions.specs.Outcome.{outcome_of, setting_of, took, wants}
 use Rattle.parser_definitions.specs.Then.{ComesOf}
 use Rattle.parser_definitions.specs.Then.Steps.{In}
-use Rattle.winnow_core.specs.Covers.{at_setting, ran_covers, ran_ends}
+use Rattle.winnow_core.specs.Settings.{at_setting}
 use Rattle.winnow_expression.specs.Covers.Steps as step
-use Rattle.winnow_expression.specs.Covers.{covered_reads, Within, within_end}
+use Rattle.winnow_expression.specs.Covers.{Within, ran_reads, within_end}
 use Rattle.winnow_expression.specs.Covers.Steps.{PartsCovered}
 use Rattle.winnow_expression.specs.Covers.Steps.{first_did, next_did, tail_ended}
 use Rattle.winnow_expression.specs.Covers.Steps.{tree_ended}
@@ -179,8 +179,7 @@ module _ {S W T L V F G H : Type 0} (g : Made S W T L V F G H) where
   covered i = record {
     reads_first = record {
       reads = λ s m a t j here r.
-          let d = (covered_reads (ran_covers g.reading g.first (setting_of g.form i))
-          (ran_ends g.reading g.first g.form)).reads s m a t j here r in (
+          let d = (ran_reads g.reading g.first (setting_of g.form i) i).reads s m a t j here r in (
             subst (λ y. g.first (setting_of g.form i) s (left_of m) y)
                 (sym (first_round (outcome_of a (t, left_of j)))) d.0,
             d.1,
@@ -188,8 +187,7 @@ module _ {S W T L V F G H : Type 0} (g : Made S W T L V F G H) where
     };
     reads_next = record {
       reads = λ s m a t j here r.
-          let d = (covered_reads (ran_covers g.reading g.next (setting_of g.form i))
-          (ran_ends g.reading g.next g.form)).reads s m a t j here r in (
+          let d = (ran_reads g.reading g.next (setting_of g.form i) i).reads s m a t j here r in (
             subst (λ y. g.next (setting_of g.form i) s (left_of m) y)
                 (sym (next_round (outcome_of a (t, left_of j)))) d.0,
             d.1,
