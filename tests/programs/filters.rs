@@ -4,6 +4,7 @@
 ghost use Rattle.winnow.specs.Input.{IsEndOf};
 
 use std::alloc::Global;
+use std::fmt::{self, Display, Formatter};
 use winnow::ascii::impls::{Alpha1, DecUint, Space0};
 use winnow::combinator::{
     FoldBinary, FoldUnary, Infix, Prefix, alt, cut_err, delimited, expression, not, preceded,
@@ -14,7 +15,27 @@ use winnow::prelude::*;
 use winnow::token::one_of;
 use winnow::{Func, FuncWith};
 
-type Message = ContextError<&'static str>;
+type Message = ContextError<Expected>;
+
+/// What was expected. The prover covers recursive functions only if contexts have no lifetime.
+#[derive(Clone, Copy, Debug)]
+enum Expected {
+    Sign,
+    Number,
+    Bracket,
+    Operand,
+}
+
+impl Display for Expected {
+    fn fmt<W: fmt::Write>(&self, f: &mut Formatter<W>) -> fmt::Result {
+        f.write_str(match self {
+            Expected::Sign => "`=`, `<` or `>`",
+            Expected::Number => "a number",
+            Expected::Bracket => "`)`",
+            Expected::Operand => "a comparison, `not` or `(`",
+        })
+    }
+}
 
 /// A record.
 #[derive(Clone, Copy)]
@@ -73,8 +94,8 @@ fn read_comparison(
         "b" => Some(record.b),
         _ => None,
     });
-    let sign = alt(("=", "<", ">")).context(alloc, "`=`, `<` or `>`");
-    let number = cut_err(DecUint.context(alloc, "a number"));
+    let sign = alt(("=", "<", ">")).context(alloc, Expected::Sign);
+    let number = cut_err(DecUint.context(alloc, Expected::Number));
     let (field, _, sign, _, number, _): (u32, _, &str, _, u32, _) = (
         field, Space0, sign, Space0, number, Space0,
     ).parse_next(input)?;
@@ -97,14 +118,14 @@ fn read_filter(
         return Err(ErrMode::Cut(ContextError::from_input(input)));
     };
     let inner = Func(|input: &mut &str| read_filter(alloc, below, record, input));
-    let closed = cut_err(')'.context(alloc, "`)`"));
+    let closed = cut_err(')'.context(alloc, Expected::Bracket));
     let brackets = delimited(('(', Space0), inner, (closed, Space0));
     let operand = alt((FuncWith((alloc, record), read_comparison), brackets));
     let negate = FuncWith("not", read_word).value(Prefix(3, Negate));
     let and = FuncWith("and", read_word).value(Infix::Left(2, Joint::And));
     let or = FuncWith("or", read_word).value(Infix::Left(1, Joint::Or));
     expression(alloc, operand)
-        .prefix(negate.context(alloc, "a comparison, `not` or `(`"))
+        .prefix(negate.context(alloc, Expected::Operand))
         .infix(alt((and, or)))
         .parse_next(input)
 }
