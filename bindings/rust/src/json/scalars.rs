@@ -74,7 +74,8 @@ impl<'i> Value<'i> {
     /// # Ok::<(), pergidau::Error>(())
     /// ```
     pub fn as_f64(&self) -> Option<f64> {
-        if self.kind == Kind::Number { self.text.parse().ok() } else { None }
+        // (the texts of other values do not parse)
+        self.text.parse().ok()
     }
 
     fn number(&self) -> Option<&'i [u8]> {
