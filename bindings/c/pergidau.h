@@ -661,7 +661,8 @@ struct pergidau_record {
 /*
  * A dialect of comma-separated values. The delimiter, the quote, a carriage return and a line
  * feed must be four different bytes. RFC 4180 has a comma, a double quote, and
- * PERGIDAU_CSV_CRLF.
+ * PERGIDAU_CSV_CRLF. There is always a quote: for fields without quotes, choose a byte that
+ * does not occur. There are no escape characters and no comments.
  */
 struct pergidau_csv_dialect {
     /* The byte between two fields. */
@@ -1003,7 +1004,7 @@ struct pergidau_json_text {
  * iovec of POSIX.
  */
 struct pergidau_bytes {
-    /* The bytes. */
+    /* The bytes. A null pointer is rejected, also if there are none. */
     const uint8_t *bytes;
     /* How many bytes there are. */
     size_t bytes_length;

@@ -37,8 +37,9 @@ pub enum LineEnd {
 /// A dialect: the byte between two fields, the byte around a quoted field, and what ends a record.
 ///
 /// The delimiter, the quote, a carriage return and a line feed must be four different bytes;
-/// otherwise each function returns [`Error::InvalidDialect`]. The functions also take a
-/// [`LineEnd`], for the standard dialect with that line ending.
+/// otherwise each function returns [`Error::InvalidDialect`]. There is always a quote: for fields
+/// without quotes, choose a byte that does not occur. There are no escape characters and no comments.
+/// The functions also take a [`LineEnd`], for the standard dialect with that line ending.
 ///
 /// ```
 /// use pergidau::csv::{self, Dialect, LineEnd};

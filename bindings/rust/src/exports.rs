@@ -634,7 +634,9 @@ pub struct Record {
 }
 
 /// A dialect of comma-separated values. The delimiter, the quote, a carriage return and a line feed
-/// must be four different bytes. RFC 4180 has a comma, a double quote, and `CSV_CRLF`.
+/// must be four different bytes. RFC 4180 has a comma, a double quote, and `CSV_CRLF`. There is
+/// always a quote: for fields without quotes, choose a byte that does not occur. There are no
+/// escape characters and no comments.
 #[repr(C)]
 #[derive(Clone, Copy, Debug, Default, PartialEq, Eq)]
 pub struct CsvDialect {
@@ -991,7 +993,7 @@ pub struct JsonText {
 #[repr(C)]
 #[derive(Clone, Copy, Debug, PartialEq, Eq)]
 pub struct Bytes {
-    /// The bytes.
+    /// The bytes. A null pointer is rejected, also if there are none.
     pub bytes: *const u8,
     /// How many bytes there are.
     pub bytes_length: usize,

@@ -8,7 +8,7 @@ ghost use Rattle.exported.specs.Output.{Puts};
 #[repr(C)]
 #[derive(Clone, Copy, Drop)]
 pub struct Bytes<'i> {
-    /// The bytes.
+    /// The bytes. A null pointer is rejected, also if there are none.
     pub bytes: &'i [u8],
 }
 

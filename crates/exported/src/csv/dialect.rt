@@ -16,7 +16,9 @@ pub const CSV_LF: u32 = 1;
 pub const CSV_EITHER: u32 = 2;
 
 /// A dialect of comma-separated values. The delimiter, the quote, a carriage return and a line feed
-/// must be four different bytes. RFC 4180 has a comma, a double quote, and `CSV_CRLF`.
+/// must be four different bytes. RFC 4180 has a comma, a double quote, and `CSV_CRLF`. There is
+/// always a quote: for fields without quotes, choose a byte that does not occur. There are no
+/// escape characters and no comments.
 #[repr(C)]
 #[derive(Clone, Copy, Drop)]
 pub struct CsvDialect {
