@@ -276,11 +276,11 @@ pub use Rattle.winnow_expression.specs.Ending
 pub use Rattle.winnow_expression.specs.Expression
 pub use Rattle.winnow_expression.specs.Folds
 pub use Rattle.winnow_expression.specs.Machine
+pub use Rattle.winnow_expression.specs.Monotone
 pub use Rattle.winnow_expression.specs.Operators
 pub use Rattle.winnow_expression.specs.Parts
 pub use Rattle.winnow_expression.specs.Places
 pub use Rattle.winnow_expression.specs.Units
-pub use Rattle.winnow_expression.specs.Within
 -- The trees of operator expressions: a call gives the value of the only tree over its reading that
 -- respects precedence.
 pub use Rattle.winnow_expression_trees.specs.Accepting

@@ -8,8 +8,8 @@ pub mod Expression
 pub mod Folds
 pub mod Grammar
 pub mod Machine
+pub mod Monotone
 pub mod Operators
 pub mod Parts
 pub mod Places
 pub mod Units
-pub mod Within

@@ -26,7 +26,7 @@ use Rattle.winnow_expression_trees.specs.Accepting.{AcceptingDo, AssertingDo}
 use Rattle.winnow_expression_trees.specs.Accepting.{FoldAnswers, FoldFails}
 use Rattle.winnow_expression_trees.specs.Accepting.{IsTook, Sure, accepted, both_accepted}
 use Rattle.winnow_expression_trees.specs.Premises.{NotMemory}
-use Rattle.winnow_expression.specs.Within.{Ends, Fine, any_fine, no_ends, trees_map}
+use Rattle.winnow_expression.specs.Monotone.{Ends, Fine, any_fine, no_ends, trees_map}
 
 -- ---- outcomes and their kinds
 

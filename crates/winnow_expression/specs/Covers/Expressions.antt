@@ -16,7 +16,7 @@ use Rattle.winnow_expression.specs.Definition.{operators}
 use Rattle.winnow_expression.specs.Ending.{Ending}
 use Rattle.winnow_expression.specs.Folds.{DoesBinary, DoesUnary}
 use Rattle.winnow_expression.specs.Parts.{PartsDo}
-use Rattle.winnow_expression.specs.Within.{any_fine, no_ends, trees_map}
+use Rattle.winnow_expression.specs.Monotone.{any_fine, no_ends, trees_map}
 use Rattle.winnow_expression.specs.declared.combinator.operators.Infix.{Infix}
 use Rattle.winnow_expression.specs.declared.combinator.operators.Postfix.{Postfix}
 use Rattle.winnow_expression.specs.declared.combinator.operators.Prefix.{Prefix}
