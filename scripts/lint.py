@@ -88,18 +88,22 @@ def unused(path):
 
 
 def facade():
-    """Returns the names of the modules and types that the facade passes on."""
+    """Returns the names of the modules and of the types that the facade passes on."""
     text = read(CRATES / "winnow/specs/Lib.antt")
-    found = {one or other or path.rpartition(".")[2] for path, one, other in PASSED_ON.findall(text)}
-    return found | {*re.findall(r"^pub mod (\w+)$", text, re.M)}
+    uses = PASSED_ON.findall(text)
+    modules = [other or path.rpartition(".")[2] for path, one, other in uses if not one]
+    return [*modules, *re.findall(r"^pub mod (\w+)$", text, re.M)], {one for _, one, _ in uses}
 
 
 def main():
     wrong = 0
-    modules = facade()
+    modules, types = facade()
+    for name in sorted(it for it in {*modules} if modules.count(it) > 1):
+        wrong += 1
+        print(f"winnow.specs has two modules {name}")
     folders = [CRATES.glob(f"*/{it}/**/*") for it in ("src", *PROOFS)] + [(TOP / it).glob("**/*") for it in ("tests", "bench")]
     for path in sorted(it for files in folders for it in files if it.suffix in (".rt", ".rs", ".antt")):
-        for name in sorted({*FACADE.findall(read(path))} - modules):
+        for name in sorted({*FACADE.findall(read(path))} - {*modules} - types):
             wrong += 1
             print(f"{path.relative_to(TOP)}: winnow.specs has no {name}")
     for fault in faults_of_readme():
