@@ -3,15 +3,25 @@
 
 use std::alloc::Global;
 use winnow::FuncWith;
-use winnow::ascii::impls::{Multispace0, Multispace1, TillLineEnding};
-use winnow::combinator::impls::Eof;
-use winnow::combinator::{alt, cut_err, delimited, preceded, repeat, repeat_till, terminated};
+use winnow::ascii::impls::{Multispace1, TillLineEnding};
+use winnow::combinator::impls::{Eof, Fail};
+use winnow::combinator::{alt, cut_err, opt, preceded, repeat, repeat_till, terminated};
 use winnow::error::{ContextError, ErrMode, ParseFault};
 use winnow::prelude::*;
 use winnow::stream::position_of;
 use winnow::token::take_till;
 
-type Message = ContextError<&'static str>;
+type Message = ContextError<Expected>;
+
+/// What was expected. The prover covers recursive functions only if contexts have no lifetime.
+#[derive(Clone, Copy, Debug, PartialEq, Eq)]
+enum Expected {
+    End,
+    Bracket,
+    Directive,
+    Semicolon,
+    EndOfFile,
+}
 
 /// A directive. A simple one has no block.
 #[derive(Debug, Drop)]
@@ -38,14 +48,12 @@ fn read_word<'i>(alloc: Global, input: &mut &'i str) -> ModalResult<&'i str, Mes
 fn read_block<'i>(
     (alloc, depth): (Global, usize),
     input: &mut &'i str,
-) -> ModalResult<Option<Vec<Directive<'i>>>, Message> {
-    let gap = FuncWith(alloc, read_gap);
-    let open = ('{', gap).context(alloc, "`;` or `{`");
-    let close = ('}', FuncWith(alloc, read_gap)).context(alloc, "`}`");
+) -> ModalResult<Vec<Directive<'i>>, Message> {
+    let open = ('{', FuncWith(alloc, read_gap)).context(alloc, Expected::End);
+    let close = ('}', FuncWith(alloc, read_gap)).context(alloc, Expected::Bracket);
     let directive = FuncWith((alloc, depth), read_directive);
-    preceded(open, repeat_till(alloc, 0.., directive, close))
-        .map(|(block, _)| Some(block))
-        .parse_next(input)
+    let (block, _) = preceded(open, repeat_till(alloc, 0.., directive, close)).parse_next(input)?;
+    Ok(block)
 }
 
 /// Parses a directive whose blocks are nested at most `depth` deep, and the gap after it.
@@ -55,12 +63,16 @@ fn read_directive<'i>(
     input: &mut &'i str,
 ) -> ModalResult<Directive<'i>, Message> {
     let word = FuncWith(alloc, read_word);
-    let name = word.context(alloc, "a directive").parse_next(input)?;
+    let name = word.context(alloc, Expected::Directive).parse_next(input)?;
     let arguments = repeat(alloc, 0.., FuncWith(alloc, read_word)).parse_next(input)?;
-    let end = (';', FuncWith(alloc, read_gap)).map(|_| None);
-    let block = match depth.checked_sub(1) {
-        Some(below) => cut_err(alt((end, FuncWith((alloc, below), read_block)))).parse_next(input)?,
-        None => cut_err(end.context(alloc, "`;`")).parse_next(input)?,
+    let end = opt((';', FuncWith(alloc, read_gap))).parse_next(input)?;
+    let block = match (end, depth.checked_sub(1)) {
+        (Some(_), _) => None,
+        (None, Some(below)) => {
+            let block = FuncWith((alloc, below), read_block);
+            Some(cut_err(block).parse_next(input)?)
+        }
+        (None, None) => cut_err(Fail.context(alloc, Expected::Semicolon)).parse_next(input)?,
     };
     Ok(Directive {
         name,
@@ -69,15 +81,21 @@ fn read_directive<'i>(
     })
 }
 
+/// Parses directives up to the end of the file.
+fn read_all<'i>(alloc: Global, input: &mut &'i str) -> ModalResult<Vec<Directive<'i>>, Message> {
+    read_gap(alloc, input)?;
+    let directive = FuncWith((alloc, 8), read_directive);
+    let end = Eof.context(alloc, Expected::EndOfFile);
+    let (list, _) = repeat_till(alloc, 0.., directive, end).parse_next(input)?;
+    Ok(list)
+}
+
 /// Parses a whole file.
 fn read_config<'i>(
     alloc: Global,
     text: &'i str,
 ) -> Result<Vec<Directive<'i>>, ParseFault<&'i str, Message>> {
-    let directive = FuncWith((alloc, 8), read_directive);
-    let end = Eof.context(alloc, "the end of the file");
-    let directives = repeat_till(alloc, 0.., directive, end).map(|(list, _)| list);
-    Parser::<_, _, ErrMode<_>>::parse(&mut preceded(FuncWith(alloc, read_gap), directives), text)
+    Parser::<_, _, ErrMode<_>>::parse(&mut FuncWith(alloc, read_all), text)
 }
 
 /// Returns whether a directive has these words and no block.
@@ -121,17 +139,17 @@ fn blocks(rt: HostRuntime) {
 #[test]
 fn messages(rt: HostRuntime) {
     for (text, line, column, expected) in [
-        ("listen 80", 1, 10, "`;` or `{`"),
-        ("a;\nhttp {\n  root /;\n", 4, 1, "a directive"),
-        ("http { root / }", 1, 15, "`;` or `{`"),
-        ("http {};", 1, 8, "a directive"),
+        ("listen 80", 1, 10, Expected::End),
+        ("a;\nhttp {\n  root /;\n", 4, 1, Expected::Directive),
+        ("http { root / }", 1, 15, Expected::End),
+        ("http {};", 1, 8, Expected::Directive),
         (
             "a { a { a { a { a { a { a { a { a {} } } } } } } } }",
             1,
             35,
-            "`;`",
+            Expected::Semicolon,
         ),
-        ("{}", 1, 1, "a directive"),
+        ("{}", 1, 1, Expected::Directive),
     ] {
         match read_config(rt.alloc(), text) {
             Err(ParseFault::Invalid(error)) => {

@@ -163,8 +163,11 @@ fn values(rt: HostRuntime) {
 fn messages(rt: HostRuntime) {
     let record = Record { a: 1, b: 2 };
     for (text, message) in [
-        ("", "parse error at line 1, column 1\n  |\n1 | \n  | ^\n\
-             expected a comparison, `not` or `(`"),
+        (
+            "",
+            "parse error at line 1, column 1\n  |\n1 | \n  | ^\n\
+             expected a comparison, `not` or `(`",
+        ),
         (
             "a = 1 and",
             "parse error at line 1, column 10\n  |\n1 | a = 1 and\n  |          ^\n\
@@ -175,10 +178,16 @@ fn messages(rt: HostRuntime) {
             "parse error at line 1, column 10\n  |\n1 | a = 1 or c = 2\n  |          ^\n\
              expected a comparison, `not` or `(`",
         ),
-        ("a = x", "parse error at line 1, column 5\n  |\n1 | a = x\n  |     ^\n\
-             expected a number"),
-        ("(a = 1", "parse error at line 1, column 7\n  |\n1 | (a = 1\n  |       ^\n\
-             expected `)`"),
+        (
+            "a = x",
+            "parse error at line 1, column 5\n  |\n1 | a = x\n  |     ^\n\
+             expected a number",
+        ),
+        (
+            "(a = 1",
+            "parse error at line 1, column 7\n  |\n1 | (a = 1\n  |       ^\n\
+             expected `)`",
+        ),
     ] {
         match accepts(rt.alloc(), record, text) {
             Ok(_) => assert!(rt; false),
