@@ -11,4 +11,7 @@ mod functions;
 mod lexed;
 
 #[cfg(test)]
+mod rule_pieces;
+
+#[cfg(test)]
 mod slices;

@@ -9,4 +9,5 @@ pub mod PlaceLemmas
 pub mod PrefixLemmas
 pub mod PremiseLemmas
 pub mod SliceLemmas
+pub mod WordPieceLemmas
 pub mod WordRuns

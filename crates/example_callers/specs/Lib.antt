@@ -10,4 +10,5 @@ pub mod Places
 pub mod Prefixes
 pub mod Premises
 pub mod Times
+pub mod WordPieces
 pub mod Words

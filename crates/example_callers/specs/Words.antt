@@ -29,7 +29,7 @@ MarkedWord = Both (λ o1 o2. o2) Mark Word
 abbrev pub Tag : ℕ → Grammar ℕ (Bor (List ℕ))
 Tag mark = Both (λ o1 o2. o2) (Byte mark) Word
 
-word_unique : IsUnique Word
+pub word_unique : IsUnique Word
 word_unique = class_unique IsAlpha 1 (λ b. b) (λ b. b) counted_reading (λ t u e. e)
 
 pub tag_unique : (mark : ℕ) → IsUnique (Tag mark)

@@ -20,6 +20,7 @@ pub mod pieces;
 pub mod places;
 pub mod prefixes;
 pub mod premises;
+pub mod rule_pieces;
 pub mod slices;
 pub mod spans;
 pub mod words;
