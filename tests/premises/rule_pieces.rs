@@ -20,7 +20,8 @@ fn words_with_a_mark(rt: HostRuntime) {
         let mut whole = Partial::new(longer);
         let _was_partial = whole.complete();
         let mut first = Partial::new(piece);
-        assert_eq!(rt; words_of_both(&mut first, &mut whole), (on_piece, on_piece));
+        let (_, on_whole) = words_of_both(&mut first, &mut whole);
+        assert_eq!(rt; on_whole, on_piece);
     }
 }
 
@@ -36,8 +37,9 @@ fn words_that_are_cut_off(rt: HostRuntime) {
     }
     let mut first = Partial::new(b"key=wor".as_slice());
     let mut second = Partial::new(b"key=wor".as_slice());
-    let asks = Err(ErrMode::Incomplete(Needed::new(1)));
-    assert_eq!(rt; words_of_both(&mut first, &mut second), (asks, asks));
+    let (on_piece, on_longer) = words_of_both(&mut first, &mut second);
+    assert_eq!(rt; on_piece, Err(ErrMode::Incomplete(Needed::new(1))));
+    assert_eq!(rt; on_longer, on_piece);
 }
 
 #[test]
