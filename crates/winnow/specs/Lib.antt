@@ -235,7 +235,6 @@ pub use Rattle.winnow_numbers.specs.DecimalText
 pub use Rattle.winnow_numbers.specs.Numeral
 -- Combinators for choices, options and sequences.
 pub use Rattle.winnow_comb.specs.Alt
-pub use Rattle.winnow_comb.specs.Laws
 pub use Rattle.winnow_comb.specs.Terminated
 -- Repetition of a parser: into an accumulator or a value, until another parser succeeds, as an
 -- iterator, or into a buffer.

@@ -13,9 +13,6 @@ pub use winnow_bits::laws::{
     longer_inputs_get_partial_results_of_bits, longer_inputs_get_partial_results_of_bytes,
     taken_bits_and_the_rest_are_the_input,
 };
-pub use winnow_comb::laws::{
-    not_resets_the_input, opt_resets_the_input_on_none, peek_resets_the_input,
-};
 pub use winnow_core::laws::{
     eof_is_not_stable, the_slice_taken_and_the_rest_are_the_input,
     the_slice_with_the_output_and_the_rest_are_the_input,

@@ -5,4 +5,3 @@
 #![tactic(auto)]
 
 pub mod combinator;
-pub mod laws;
