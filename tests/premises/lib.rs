@@ -2,6 +2,9 @@
 #![tactic(auto)]
 
 #[cfg(test)]
+mod byte_orders;
+
+#[cfg(test)]
 mod callers;
 
 #[cfg(test)]

@@ -5,6 +5,7 @@ pub mod ListLemmas
 pub mod LongerLemmas
 pub mod MarkLemmas
 mod MovedRuns
+pub mod OrderLemmas
 pub mod PlaceLemmas
 pub mod PrefixLemmas
 pub mod PremiseLemmas

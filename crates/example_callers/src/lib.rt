@@ -1,6 +1,7 @@
 //! The library in use: what callers prove with its contracts and laws.
 #![tactic(auto)]
 
+pub mod byte_orders;
 pub mod choices;
 pub mod complete_streams;
 pub mod derivations;
