@@ -101,8 +101,8 @@ pub fn not<Input, Output, Error, ParseNext>(
 
 /// Turns a backtrack of `parser` into a cut, so that no other branch is tried.
 ///
-/// Outputs and other errors (cut, incomplete and out of memory) are returned unchanged. The input
-/// is left where `parser` left it.
+/// Outputs and other errors (cut, incomplete and out of memory) are returned unchanged, with the
+/// input where `parser` left it.
 ///
 /// Known as `cut` in nom.
 ///
@@ -126,8 +126,8 @@ pub fn cut_err<Input, Output, Error, ParseNext>(
 
 /// Turns a cut of `parser` into a backtrack, so that another branch may be tried.
 ///
-/// Outputs and other errors (backtrack, incomplete and out of memory) are returned unchanged. The
-/// input is left where `parser` left it.
+/// Outputs and other errors (backtrack, incomplete and out of memory) are returned unchanged, with
+/// the input where `parser` left it.
 ///
 /// ```
 /// let mut input = "b";
