@@ -8,6 +8,9 @@ mod byte_orders;
 mod callers;
 
 #[cfg(test)]
+mod escapes;
+
+#[cfg(test)]
 mod functions;
 
 #[cfg(test)]

@@ -1,4 +1,5 @@
 pub mod ChoiceLemmas
+pub mod EscapeLemmas
 pub mod FoldLemmas
 pub mod ItemLemmas
 pub mod ListLemmas

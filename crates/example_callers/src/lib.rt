@@ -5,6 +5,7 @@ pub mod byte_orders;
 pub mod choices;
 pub mod complete_streams;
 pub mod derivations;
+pub mod escapes;
 pub mod first_line;
 pub mod folds;
 pub mod functions;
