@@ -26,6 +26,8 @@ pub mod prelude;
 pub mod stream;
 
 pub use stream_errors::mode::ModalResult;
+pub use streams::locating::LocatingSlice;
+pub use streams::partial::Partial;
 pub use winnow_core::parser::{Func, FuncWith, ModalParser, Parser};
 pub use winnow_recovery::{RecoverableParser, RecoveringParser};
 pub use winnow_token::token;
