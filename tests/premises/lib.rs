@@ -11,6 +11,9 @@ mod callers;
 mod escapes;
 
 #[cfg(test)]
+mod fields;
+
+#[cfg(test)]
 mod functions;
 
 #[cfg(test)]

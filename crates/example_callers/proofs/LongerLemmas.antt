@@ -1,7 +1,7 @@
 -- Calls on partial input and on longer input.
 use Rattle.std.specs.Prelude.{◌≡◌, ⊤, ℕ, Ok, Err}
 use Rattle.std.proofs.Common.{refl, sym, subst}
-use Rattle.example_callers.specs.Longer.{FoldsOnce, HasSameResult, MakesOnce}
+use Rattle.example_callers.specs.Longer.{FoldsOnce, HasSameFields, HasSameResult, MakesOnce}
 use Rattle.winnow.specs.Closures.{folding}
 use Rattle.winnow.specs.FoldDefinition.{FoldsAlike}
 use Rattle.winnow.specs.Folding.{Built, added, begun}
@@ -10,6 +10,7 @@ use Rattle.winnow.specs.Input.{Input}
 use Rattle.winnow.specs.Kind.{backtrack, cut, incomplete, memory}
 use Rattle.winnow.specs.Left.{End, Left, extend, left_of}
 use Rattle.winnow.specs.Longer.{SameOnLonger}
+use Rattle.winnow.specs.LongerBits.{BytesCounted, SameOnLongerBy}
 use Rattle.winnow.specs.Moved.{moved, moved_alike}
 use Rattle.winnow.specs.Outcome.{alike_wider, both, outcome_of}
 use Rattle.winnow.specs.Runs.{Runs}
@@ -41,6 +42,22 @@ same_result {S} {T} {O} {run} {alike} {s} {q} {t} {u} {i} {j} {k} {l} {a} {b} is
           (moved_alike alike left_end left_end (outcome_of a (t, extend more (left_of j)))
           (outcome_of b (u, left_of l))
           (is.same final more flag b u l (subst Q e (subst P same ran))));
+    }
+
+-- likewise, of bytes whose bits can be counted
+pub same_fields : {S O : Type 0} {run : Runs S ℕ O} {alike : O → O → Type 0} {s q t u : S}
+    {i j k l : Input ℕ} {a b : Answer O} → SameOnLongerBy BytesCounted run alike s i a t j → q ≡ s
+    → run q k b u l → HasSameFields alike i a j k b l
+same_fields {S} {O} {run} {alike} {s} {q} {t} {u} {i} {j} {k} {l} {a} {b} is same ran =
+    record {
+      result = λ final more flag counted e.
+          let P : S → Type 0 = λ z. run z k b u l in
+          let Q : Input ℕ → Type 0 = λ z. run s z b u l in
+          both alike (outcome_at left_end a (t, extend more (left_of j)))
+          (outcome_at left_end b (u, left_of l))
+          (moved_alike alike left_end left_end (outcome_of a (t, extend more (left_of j)))
+          (outcome_of b (u, left_of l))
+          (is.same final more counted flag b u l (subst Q e (subst P same ran))));
     }
 
 -- a weaker equality of outputs

@@ -4,6 +4,7 @@ use Rattle.winnow.specs.Form.{Answer}
 use Rattle.winnow.specs.Input.{Input, with_more}
 use Rattle.winnow.specs.Left.{extend, left_of}
 use Rattle.winnow.specs.Longer.{IsFinal}
+use Rattle.winnow.specs.LongerBits.{BytesCounted}
 use Rattle.winnow.specs.Outcome.{Alike, outcome_of}
 
 -- A call on `i` returns `a` and leaves `j`; one on `k` returns `b` and leaves `l`. If `a` is final
@@ -12,6 +13,13 @@ use Rattle.winnow.specs.Outcome.{Alike, outcome_of}
 pub record HasSameResult {T O : Type 0} (alike : O → O → Type 0) (i : Input T) (a : Answer O)
     (j k : Input T) (b : Answer O) (l : Input T) : Type 0 where
   pub result : IsFinal a → (more : List T) (flag : Bool) → k ≡ with_more i more flag
+      → Alike alike (outcome_of a (extend more (left_of j))) (outcome_of b (left_of l))
+
+-- This of bytes whose bits can be counted.
+pub record HasSameFields {O : Type 0} (alike : O → O → Type 0) (i : Input ℕ) (a : Answer O)
+    (j k : Input ℕ) (b : Answer O) (l : Input ℕ) : Type 0 where
+  pub result : IsFinal a → (more : List ℕ) (flag : Bool) → BytesCounted i.left.tokens more
+      → k ≡ with_more i more flag
       → Alike alike (outcome_of a (extend more (left_of j))) (outcome_of b (left_of l))
 
 -- In one state a closure makes one value, and has one next state.

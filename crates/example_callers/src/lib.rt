@@ -6,6 +6,7 @@ pub mod choices;
 pub mod complete_streams;
 pub mod derivations;
 pub mod escapes;
+pub mod fields;
 pub mod first_line;
 pub mod folds;
 pub mod functions;
