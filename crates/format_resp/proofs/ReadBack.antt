@@ -11,7 +11,7 @@ use Rattle.format_resp.proofs.Made.{array_is, bulk_is, mark_is}
 use Rattle.format_resp.proofs.WrittenTexts.{aggregate_text, data_text, list_for, written_text}
 use Rattle.format_resp.specs.Alike.{AreAlike, AreAlikeBy, HoldAlike, IsCommand}
 use Rattle.format_resp.specs.Resp.{Bytes, Content, ElementsIn, IsIn, Items, Replies, ReplyText}
-use Rattle.format_resp.specs.Resp.{Shortest, WrittenText, first_mark, line_end, shape, shape_of}
+use Rattle.format_resp.specs.Resp.{WrittenText, first_mark, line_end, shape, shape_of}
 use Rattle.format_resp.specs.Written.{Adds, bulk_of, bulks_of, command_of, marked}
 use Rattle.format_resp.specs.declared.marks.AggregateMark.TheVariants.{Star}
 use Rattle.format_resp.specs.declared.marks.DataMark.TheVariants.{Dollar}
@@ -93,9 +93,8 @@ bulks_row A (part ∷ parts) small =
     let is : shape_of bulk ≡ (Data Dollar, Bytes part) = ap shape (bulk_is part) in (
       bulk_of part.now,
       bulks_of parts,
-      data_text Resp2 (ElementsIn Shortest Resp2 0) bulk
-          (subst (IsIn Resp2) (sym (mark_is _ is)) tt) Dollar part is tt
-          (omega (arith, small, long, longer part.now)),
+      data_text Resp2 0 bulk Dollar part is tt (omega (arith, small, long, longer part.now))
+          (subst (IsIn Resp2) (sym (mark_is _ is)) tt),
       bulks_row A parts (omega (arith, small, long)),
       refl,
     )
@@ -109,9 +108,8 @@ command_text {A} parts list are small =
     let is : shape_of (made.Array list) ≡ (Aggregate Star, Items list) =
     ap shape (array_is list) in
     written_text Resp2 1 (made.Array list) (command_of parts)
-    (aggregate_text Resp2 (ElementsIn Shortest Resp2 1) (made.Array list)
-    (subst (IsIn Resp2) (sym (mark_is _ is)) tt) Star (length parts) list (bulks_of parts) is many
-    (rw are (bulks_row A parts small)))
+    (aggregate_text Resp2 1 (made.Array list) Star (length parts) list (bulks_of parts) is many
+    (rw are (bulks_row A parts small)) (subst (IsIn Resp2) (sym (mark_is _ is)) tt))
 
 -- an array is at the start of the bytes if a command was appended to an empty buffer
 pub command_first : {A : Type 0} (alloc : A) (parts : List (Bor (List ℕ)))

@@ -1,37 +1,27 @@
 -- Lemmas about bytes for which a vector has no room.
 use Rattle.std.specs.Prelude.{◌≡◌, ◌≤◌, ◌<◌, ◌+◌, ◌++◌, ◌^◌, ℕ, suc, List, [], ◌∷◌, Result}
-use Rattle.std.specs.Prelude.{◌/◌, ◌%◌, ℤ, Ok, Err, FitsSigned, IfErr, OnErr, drop, length}
+use Rattle.std.specs.Prelude.{◌/◌, ◌%◌, Ok, Err, IfErr, OnErr, drop, length}
 use Rattle.std.specs.Prelude.{slice_index_or, vec_capacity}
 use Rattle.std.specs.Borrow.{Bor}
-use Rattle.std.specs.Fmt.{decimal, signed_decimal}
-use Rattle.std.specs.Int.{w64}
+use Rattle.std.specs.Fmt.{decimal}
 use Rattle.std.specs.declared.vec.Vec.{Vec}
 use Rattle.std.proofs.Common.{ap, arith, refl, subst, sym, ◌∙◌}
 use Rattle.std.proofs.lemmas.Fmt.{decimal_digit, decimal_step}
 use Rattle.std.proofs.lemmas.List.{drop_more, length-append}
 use Rattle.std.proofs.lemmas.Result.{IfErr-weaker}
 use Rattle.grammars.specs.Texts.{EachText, Text}
-use Rattle.format_resp.proofs.Made.{gathered_is, integer_is, shaped}
+use Rattle.format_resp.proofs.Made.{gathered_is}
 use Rattle.format_resp.proofs.OnlyTexts.{IsOnly, have_items, have_mark, written_only}
-use Rattle.format_resp.proofs.WrittenTexts.{aggregate_text, data_text, line_text, null_array_text}
-use Rattle.format_resp.proofs.WrittenTexts.{null_bulk_text}
-use Rattle.format_resp.specs.Resp.{Bytes, ElementsIn, Fits, IsIn, LineSays, Nothing, Replies}
+use Rattle.format_resp.proofs.WrittenTexts.{Encodes, aggregate_text}
+use Rattle.format_resp.specs.Resp.{ElementsIn, Replies}
 use Rattle.format_resp.specs.Resp.{Shortest}
-use Rattle.format_resp.specs.Resp.{WrittenText, byte_of, first_mark, formatted, gathered, many}
-use Rattle.format_resp.specs.Resp.{shape_of}
+use Rattle.format_resp.specs.Resp.{WrittenText, byte_of, gathered, many}
 use Rattle.format_resp.specs.Written.{Adds, IsFullForEach, IsFullWith, LacksRoom, bulks_of}
 use Rattle.format_resp.specs.Written.{data_of, marked}
 use Rattle.format_resp.specs.declared.marks.AggregateMark.{AggregateMark}
-use Rattle.format_resp.specs.declared.marks.AggregateMark.TheVariants.{Star}
-use Rattle.format_resp.specs.declared.marks.DataMark.{DataMark}
-use Rattle.format_resp.specs.declared.marks.DataMark.TheVariants.{Dollar}
-use Rattle.format_resp.specs.declared.marks.LineMark.{LineMark}
-use Rattle.format_resp.specs.declared.marks.LineMark.TheVariants.{Colon}
-use Rattle.format_resp.specs.declared.marks.Mark.TheVariants.{Aggregate, Data, Line}
+use Rattle.format_resp.specs.declared.marks.Mark.TheVariants.{Aggregate}
 use Rattle.format_resp.specs.declared.reply.Protocol.{Protocol}
-use Rattle.format_resp.specs.declared.reply.Reply as made
 use Rattle.format_resp.specs.declared.write.WriteError.{WriteError}
-use Rattle.format_resp.specs.declared.write.WriteError.TheVariants.{OutOfMemory}
 
 pub on_err : {X E P : Type 0} (r : Result X E) → P → OnErr r P
 on_err (Ok x) p = tt
@@ -107,11 +97,6 @@ module _ {O B T : Type 0} (text : Text ℕ O) (o : O) (into : Vec ℕ B) (result
         if_err text o into (Ok x) full = tt
         if_err text o into (Err e) full = λ is. full
 
-    pub full_with : {P Q : Type 0} → IfErr result (λ e. e ≡ OutOfMemory → P × Q)
-        → (P → Q → LacksFor text o into) → IfErr result (IsFullForEach text o into)
-    full_with {P} {Q} told leads = IfErr-weaker result (λ e. e ≡ OutOfMemory → P × Q)
-        (IsFullForEach text o into) (λ e full is. leads (full is).0 (full is).1) told
-
 one_more : {O : Type 0} (os : List O) (k : ℕ) (o : O) → k < length os → o ≡ slice_index_or os k o
     → drop k os ≡ o ∷ drop (k + 1) os
 one_more os k o below is = drop_more os k o below ∙ ap (λ p. p ∷ drop (k + 1) os) (sym is)
@@ -136,48 +121,13 @@ module _ {O B : Type 0} (text : Text ℕ O) (os : List O) (k : ℕ) (o : O) (bel
       let put = added.behind ∙ ap (λ l. v.items ++ l) (only o added.tokens xs added.is a) in
       subst (λ l. LacksRoom v l) (sym e) (lacks_behind v w xs ys put room (full ys row)))
 
-module _ {A B : Type 0} (protocol : Protocol) (level : ℕ) (reply : Replies A) (into : Vec ℕ B) where
-  -- of a reply with this encoding
-  of_text : (xs tokens : List ℕ) → WrittenText protocol level reply tokens
-      → (IsIn protocol (first_mark reply) → WrittenText protocol level reply xs)
-      → LacksRoom into xs → LacksRoom into tokens
-  of_text xs tokens is text full =
-      subst (λ l. LacksRoom into l) (written_only protocol level reply xs tokens
-      (text (have_mark (ElementsIn Shortest protocol level) protocol reply tokens is)) is) full
-
-  pub line_full : (mark : LineMark) (line : List ℕ) → LineSays Shortest mark reply line
-      → LacksRoom into (marked (byte_of (Line mark)) line)
-      → LacksFor (WrittenText protocol level) reply into
-  line_full mark line says full tokens is =
-      of_text (marked (byte_of (Line mark)) line) tokens is
-      (λ within. line_text protocol (ElementsIn Shortest protocol level) reply within mark line
-      says) full
-
-  pub integer_full : (n : ℤ) → LacksRoom into (marked 58 (signed_decimal n))
-      → reply ≡ made.Integer n → FitsSigned w64 n → LacksFor (WrittenText protocol level) reply into
-  integer_full n full is fits =
-      line_full Colon (signed_decimal n) (n, shaped is (integer_is n), (fits, refl)) full
-
-  pub data_full : (mark : DataMark) (bytes : Bor (List ℕ))
-      → shape_of reply ≡ (Data mark, Bytes bytes) → Fits (formatted mark) bytes.now
-      → length bytes.now < 2 ^ 63 → LacksRoom into (data_of (byte_of (Data mark)) bytes.now)
-      → LacksFor (WrittenText protocol level) reply into
-  data_full mark bytes shape fits small full tokens is =
-      of_text (data_of (byte_of (Data mark)) bytes.now) tokens is
-      (λ within. data_text protocol (ElementsIn Shortest protocol level) reply within mark bytes
-      shape fits small) full
-
-  pub null_bulk_full : shape_of reply ≡ (Data Dollar, Nothing)
-      → LacksRoom into (marked 36 (45 ∷ 49 ∷ [])) → LacksFor (WrittenText protocol level) reply into
-  null_bulk_full shape full tokens is = of_text (marked 36 (45 ∷ 49 ∷ [])) tokens is
-      (λ within. null_bulk_text protocol (ElementsIn Shortest protocol level) reply within shape)
-      full
-
-  pub null_array_full : shape_of reply ≡ (Aggregate Star, Nothing)
-      → LacksRoom into (marked 42 (45 ∷ 49 ∷ [])) → LacksFor (WrittenText protocol level) reply into
-  null_array_full shape full tokens is = of_text (marked 42 (45 ∷ 49 ∷ [])) tokens is
-      (λ within. null_array_text protocol (ElementsIn Shortest protocol level) reply within shape)
-      full
+-- of a reply with this encoding
+pub text_full : {A B : Type 0} (protocol : Protocol) (level : ℕ) (reply : Replies A)
+    (into : Vec ℕ B) (xs : List ℕ) → Encodes protocol level reply xs → LacksRoom into xs
+    → LacksFor (WrittenText protocol level) reply into
+text_full protocol level reply into xs text full tokens is =
+    subst (λ l. LacksRoom into l) (written_only protocol level reply xs tokens
+    (text (have_mark (ElementsIn Shortest protocol level) protocol reply tokens is)) is) full
 
 -- why writing a reply with this encoding is out of memory
 module _ {A B T : Type 0} (protocol : Protocol) (level : ℕ) (reply : Replies A) (into : Vec ℕ B)
@@ -185,40 +135,16 @@ module _ {A B T : Type 0} (protocol : Protocol) (level : ℕ) (reply : Replies A
   abbrev IsFull : Type 0
   IsFull = IfErr result (IsFullForEach (WrittenText protocol level) reply into)
 
-  pub line_err : (mark : LineMark) (line : List ℕ) → LineSays Shortest mark reply line
-      → LacksRoom into (marked (byte_of (Line mark)) line) → IsFull
-  line_err mark line says full = full_err (WrittenText protocol level) reply into result
-      (line_full protocol level reply into mark line says full)
+  pub text_err : (xs : List ℕ) → Encodes protocol level reply xs → LacksRoom into xs → IsFull
+  text_err xs text full = full_err (WrittenText protocol level) reply into result
+      (text_full protocol level reply into xs text full)
 
-  pub integer_err : (n : ℤ) → LacksRoom into (marked 58 (signed_decimal n))
-      → reply ≡ made.Integer n → FitsSigned w64 n → IsFull
-  integer_err n full is fits = full_err (WrittenText protocol level) reply into result
-      (integer_full protocol level reply into n full is fits)
-
-  pub data_err : (mark : DataMark) (bytes : Bor (List ℕ))
-      → shape_of reply ≡ (Data mark, Bytes bytes) → Fits (formatted mark) bytes.now
-      → length bytes.now < 2 ^ 63 → LacksRoom into (data_of (byte_of (Data mark)) bytes.now)
-      → IsFull
-  data_err mark bytes shape fits small full = full_err (WrittenText protocol level) reply into
-      result (data_full protocol level reply into mark bytes shape fits small full)
-
-  pub null_bulk_err : shape_of reply ≡ (Data Dollar, Nothing)
-      → LacksRoom into (marked 36 (45 ∷ 49 ∷ [])) → IsFull
-  null_bulk_err shape full = full_err (WrittenText protocol level) reply into result
-      (null_bulk_full protocol level reply into shape full)
-
-  pub null_array_err : shape_of reply ≡ (Aggregate Star, Nothing)
-      → LacksRoom into (marked 42 (45 ∷ 49 ∷ [])) → IsFull
-  null_array_err shape full = full_err (WrittenText protocol level) reply into result
-      (null_array_full protocol level reply into shape full)
-
-  -- a line that is written if it is valid
-  pub valid_full : {P : Type 0} (mark : LineMark) (line : List ℕ)
-      → (P → LineSays Shortest mark reply line)
-      → IfErr result (IsFullWith P into (marked (byte_of (Line mark)) line)) → IsFull
-  valid_full mark line says told =
-      full_with (WrittenText protocol level) reply into result told
-      (λ is. line_full protocol level reply into mark line (says is))
+  -- bytes that are written if they are valid
+  pub valid_full : {P : Type 0} (xs : List ℕ) → (P → Encodes protocol level reply xs)
+      → IfErr result (IsFullWith P into xs) → IsFull
+  valid_full {P} xs text = IfErr-weaker result (IsFullWith P into xs)
+      (IsFullForEach (WrittenText protocol level) reply into)
+      (λ e full is. text_full protocol level reply into xs (text (full is).0) (full is).1)
 
 -- of an aggregate, by those of its elements
 pub aggregate_full : {A B : Type 0} (protocol : Protocol) (mark : AggregateMark) (size below : ℕ)
@@ -235,7 +161,7 @@ aggregate_full {A} protocol mark size below {level} list into count is first ful
     let same : suc below ≡ level = omega (arith, is) in
     subst (λ l. LacksFor (WrittenText protocol l) reply into) same (λ tokens text.
     let (ys, are) = have_items elements protocol mark list reply tokens shape text in
-    of_text protocol (suc below) reply into
-    (marked (byte_of (Aggregate mark)) (decimal size) ++ ys) tokens text
-    (λ within. aggregate_text protocol elements reply within mark size list ys shape count are)
-    (subst (λ b. LacksRoom into (marked b (decimal size) ++ ys)) first (full ys are)))
+    text_full protocol (suc below) reply into
+    (marked (byte_of (Aggregate mark)) (decimal size) ++ ys)
+    (aggregate_text protocol (suc below) reply mark size list ys shape count are)
+    (subst (λ b. LacksRoom into (marked b (decimal size) ++ ys)) first (full ys are)) tokens text)

@@ -1,10 +1,8 @@
 -- Lemmas about the bytes appended for replies, and about the errors of writing.
 use Rattle.std.specs.Prelude.{◌≡◌, ◌≤◌, ◌<◌, ◌+◌, ◌/◌, ◌%◌, ◌^◌, ℕ, List, [], ◌∷◌}
-use Rattle.std.specs.Prelude.{◌++◌, length, FitsSigned, ℤ}
+use Rattle.std.specs.Prelude.{◌++◌, length}
 use Rattle.std.specs.Prelude.{drop, take, slice_index_or, Contains, IfErr, OnOk, Result, zero, suc}
-use Rattle.std.specs.Borrow.{Bor}
-use Rattle.std.specs.Fmt.{decimal, signed_decimal}
-use Rattle.std.specs.Int.{w64}
+use Rattle.std.specs.Fmt.{decimal}
 use Rattle.std.specs.Result.{IsErrAnd}
 use Rattle.std.specs.declared.vec.Vec.{Vec}
 use Rattle.std.proofs.Common.{refl, sym, ap, subst, ◌∙◌, append_assoc, inl, inr, arith}
@@ -13,23 +11,16 @@ use Rattle.std.proofs.lemmas.Fmt.{decimal_digit, decimal_step}
 use Rattle.std.proofs.lemmas.List.{append-nil, drop_all, drop_more}
 use Rattle.std.proofs.lemmas.Result.{IfErr-weaker, err_from_is_err_and, on_ok_weaker}
 use Rattle.grammars.specs.Texts.{EachText, Text}
-use Rattle.format_resp.proofs.Made.{gathered_is, integer_is, mark_is, shaped}
-use Rattle.format_resp.proofs.WrittenTexts.{aggregate_text, data_text, line_text, null_array_text}
-use Rattle.format_resp.proofs.WrittenTexts.{null_bulk_text, written_text}
-use Rattle.format_resp.specs.Resp.{Bytes, ElementsIn, Fits, IsIn, LineSays, Nothing, Replies}
-use Rattle.format_resp.specs.Resp.{ReplyText, Shortest, WrittenText, byte_of, first_mark, formatted}
-use Rattle.format_resp.specs.Resp.{gathered, many, shape_of}
+use Rattle.format_resp.proofs.Made.{gathered_is, mark_is}
+use Rattle.format_resp.proofs.WrittenTexts.{Encodes, aggregate_text, written_text}
+use Rattle.format_resp.specs.Resp.{ElementsIn, IsIn, Replies}
+use Rattle.format_resp.specs.Resp.{ReplyText, WrittenText, byte_of, first_mark}
+use Rattle.format_resp.specs.Resp.{gathered, many}
 use Rattle.format_resp.specs.Written.{Adds, IsDeeper, IsForeign, IsOrHas, IsRefused, IsRefusedAmong}
-use Rattle.format_resp.specs.Written.{IsRefusedAs, IsUnpaired, Keeps, data_of, marked}
+use Rattle.format_resp.specs.Written.{IsRefusedAs, IsUnpaired, Keeps, marked}
 use Rattle.format_resp.specs.declared.marks.AggregateMark.{AggregateMark}
-use Rattle.format_resp.specs.declared.marks.AggregateMark.TheVariants.{Star}
-use Rattle.format_resp.specs.declared.marks.DataMark.{DataMark}
-use Rattle.format_resp.specs.declared.marks.DataMark.TheVariants.{Dollar}
-use Rattle.format_resp.specs.declared.marks.LineMark.{LineMark}
-use Rattle.format_resp.specs.declared.marks.LineMark.TheVariants.{Colon}
-use Rattle.format_resp.specs.declared.marks.Mark.TheVariants.{Aggregate, Data, Line}
+use Rattle.format_resp.specs.declared.marks.Mark.TheVariants.{Aggregate}
 use Rattle.format_resp.specs.declared.reply.Protocol.{Protocol}
-use Rattle.format_resp.specs.declared.reply.Reply as made
 use Rattle.format_resp.specs.declared.write.WriteError.{WriteError}
 use Rattle.format_resp.specs.declared.write.WriteError.TheVariants.{Foreign, Level, NoParts}
 use Rattle.format_resp.specs.declared.write.WriteError.TheVariants.{OutOfMemory, Pairs}
@@ -107,48 +98,14 @@ cut_back {n} {before} {after} kept many e =
 
 -- ---- what is put
 
-module _ {A : Type 0} (protocol : Protocol) (level : ℕ) {reply : Replies A}
-    (within : IsIn protocol (first_mark reply)) {before after : List ℕ} where
-  pub line_put : (mark : LineMark) (line : List ℕ) → LineSays Shortest mark reply line
-      → after ≡ before ++ marked (byte_of (Line mark)) line
-      → Adds (WrittenText protocol level) reply before after
-  line_put mark line says = adds (marked (byte_of (Line mark)) line)
-      (line_text protocol (ElementsIn Shortest protocol level) reply within mark line says)
-
-  pub integer_put : {n : ℤ} → after ≡ before ++ marked 58 (signed_decimal n)
-      → reply ≡ made.Integer n → FitsSigned w64 n
-      → Adds (WrittenText protocol level) reply before after
-  integer_put {n} e is fits =
-      line_put Colon (signed_decimal n) (n, shaped is (integer_is n), (fits, refl)) e
-
-  pub data_put : (mark : DataMark) (bytes : Bor (List ℕ))
-      → shape_of reply ≡ (Data mark, Bytes bytes) → Fits (formatted mark) bytes.now
-      → length bytes.now < 2 ^ 63 → after ≡ before ++ data_of (byte_of (Data mark)) bytes.now
-      → Adds (WrittenText protocol level) reply before after
-  data_put mark bytes is fits small = adds (data_of (byte_of (Data mark)) bytes.now)
-      (data_text protocol (ElementsIn Shortest protocol level) reply within mark bytes is fits
-      small)
-
-  pub null_bulk_put : shape_of reply ≡ (Data Dollar, Nothing)
-      → after ≡ before ++ marked 36 (45 ∷ 49 ∷ [])
-      → Adds (WrittenText protocol level) reply before after
-  null_bulk_put is = adds (marked 36 (45 ∷ 49 ∷ []))
-      (null_bulk_text protocol (ElementsIn Shortest protocol level) reply within is)
-
-  pub null_array_put : shape_of reply ≡ (Aggregate Star, Nothing)
-      → after ≡ before ++ marked 42 (45 ∷ 49 ∷ [])
-      → Adds (WrittenText protocol level) reply before after
-  null_array_put is = adds (marked 42 (45 ∷ 49 ∷ []))
-      (null_array_text protocol (ElementsIn Shortest protocol level) reply within is)
-
--- a line that is written if it is valid
+-- bytes that are written if they are valid
 pub valid_put : {A T P : Type 0} (protocol : Protocol) (level : ℕ) (reply : Replies A)
-    (before after : List ℕ) (mark : LineMark) (line : List ℕ) → IsIn protocol (first_mark reply)
-    → (P → LineSays Shortest mark reply line) → (result : Result T WriteError)
-    → OnOk result (P × (after ≡ before ++ marked (byte_of (Line mark)) line))
+    (before after xs : List ℕ) → IsIn protocol (first_mark reply)
+    → (P → Encodes protocol level reply xs) → (result : Result T WriteError)
+    → OnOk result (P × (after ≡ before ++ xs))
     → OnOk result (Adds (WrittenText protocol level) reply before after)
-valid_put protocol level reply before after mark line within says result =
-    on_ok_weaker result (λ (is, e). line_put protocol level within mark line (says is) e)
+valid_put protocol level reply before after xs within text result =
+    on_ok_weaker result (λ (is, e). adds xs (text is within) e)
 
 -- the size of an aggregate, and its elements
 pub aggregate_put : {A : Type 0} (protocol : Protocol) (mark : AggregateMark) (size below : ℕ)
@@ -167,9 +124,8 @@ aggregate_put {A} protocol mark size below {level} list {before = before} {after
     let head = marked (byte_of (Aggregate mark)) (decimal size) in
     let shape = gathered_is mark list refl in
     subst P (sym f) (adds (head ++ added.tokens)
-    (aggregate_text protocol (ElementsIn Shortest protocol (suc below)) (gathered mark list)
-    (subst (IsIn protocol) (sym (mark_is _ shape)) within) mark size list added.tokens shape count
-    (subst Q same added.is)) (put_two before head added.tokens
+    (aggregate_text protocol (suc below) (gathered mark list) mark size list added.tokens shape
+    count (subst Q same added.is) (subst (IsIn protocol) (sym (mark_is _ shape)) within)) (put_two before head added.tokens
     (e ∙ ap (λ b. before ++ marked b (decimal size)) first) added.behind))
 
 -- what was appended for an aggregate of the version, for the reply that is this aggregate
@@ -229,13 +185,6 @@ module _ {A : Type 0} (protocol : Protocol) where
   pub refused_foreign : (level : ℕ) (reply : Replies A) → IsForeign protocol reply
       → IsRefused protocol level reply Foreign
   refused_foreign level reply = or_itself (IsForeign protocol) level
-
-  -- an error of another reply, which it is
-  pub refused_form : {T : Type 0} (level : ℕ) {reply form : Replies A} → reply ≡ form
-      → (result : Result T WriteError) → IfErr result (IsRefused protocol level form)
-      → IfErr result (IsRefused protocol level reply)
-  refused_form level is result =
-      subst (λ r. IfErr result (IsRefused protocol level r)) (sym is)
 
   -- ---- aggregates
 

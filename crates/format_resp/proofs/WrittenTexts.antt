@@ -1,16 +1,17 @@
 -- Proofs that the bytes written for a reply are an encoding of it, and that an encoding at a depth
 -- is one at each greater depth.
 use Rattle.std.specs.Prelude.{◌≡◌, ◌+◌, ◌<◌, ◌^◌, ℕ, ℤ, zero, suc, List, [], ◌∷◌, length, Option}
-use Rattle.std.specs.Prelude.{None, Some, ◌++◌}
+use Rattle.std.specs.Prelude.{None, Some, ◌++◌, FitsSigned}
 use Rattle.std.specs.Borrow.{Bor}
-use Rattle.std.specs.Fmt.{decimal}
+use Rattle.std.specs.Fmt.{decimal, signed_decimal}
+use Rattle.std.specs.Int.{w64}
 use Rattle.std.specs.declared.vec.Vec.{Vec}
 use denote.RawPtr.{null_ptr}
 use Rattle.std.proofs.Common.{refl, subst, arith}
 use Rattle.winnow_grammar.specs.InTurn.{Led}
 use Rattle.grammars.specs.Texts.{CountedText, EachText, Text}
 use Rattle.format_resp.proofs.LineTexts.{integer_read, size_read}
-use Rattle.format_resp.proofs.Made.{line_mark, mark_is}
+use Rattle.format_resp.proofs.Made.{integer_is, line_mark, mark_is, shaped}
 use Rattle.format_resp.specs.Resp.{AggregateBehind, Any, Body, Bytes, DataText, Elements}
 use Rattle.format_resp.specs.Resp.{ElementsIn}
 use Rattle.format_resp.specs.Resp.{Ended, Fits, Form, IntegerText, IsIn, Items, LineSays, MarkText}
@@ -26,6 +27,7 @@ use Rattle.format_resp.specs.declared.marks.LineMark.TheVariants.{Colon, Hash, U
 use Rattle.format_resp.specs.declared.marks.Mark.{Mark}
 use Rattle.format_resp.specs.declared.marks.Mark.TheVariants.{Aggregate, Data, Line}
 use Rattle.format_resp.specs.declared.reply.Protocol.{Protocol}
+use Rattle.format_resp.specs.declared.reply.Reply as made
 
 pub row_as : {O : Type 0} (these those : Text ℕ O)
     → ((o : O) (xs : List ℕ) → these o xs → those o xs) → (os : List O) (xs : List ℕ)
@@ -139,15 +141,17 @@ small_of mark size count e small = omega (arith, e, small)
 
 -- ---- what is written is such an encoding
 
-module _ {A : Type 0} (protocol : Protocol) (elements : Text ℕ (List (Replies A)))
-    (reply : Replies A) (within : IsIn protocol (first_mark reply)) where
-  abbrev IsText : List ℕ → Type 0
-  IsText = Led (MarkText protocol) (Body Shortest elements) reply
+-- if the reply is of the version, this is an encoding of it
+abbrev pub Encodes : {A : Type 0} → Protocol → ℕ → Replies A → List ℕ → Type 0
+Encodes protocol level reply xs =
+    IsIn protocol (first_mark reply) → WrittenText protocol level reply xs
 
+module _ {A : Type 0} (protocol : Protocol) (level : ℕ) (reply : Replies A) where
   led_text : (mark : Mark) (tokens : List ℕ) → first_mark reply ≡ mark
-      → Body Shortest elements mark reply tokens → IsText (byte_of mark ∷ tokens)
+      → Body Shortest (ElementsIn Shortest protocol level) mark reply tokens
+      → Encodes protocol level reply (byte_of mark ∷ tokens)
   unfolding Led MarkText
-  led_text mark tokens is body = (
+  led_text mark tokens is body = λ within. (
     mark,
     byte_of mark ∷ [],
     tokens,
@@ -157,14 +161,20 @@ module _ {A : Type 0} (protocol : Protocol) (elements : Text ℕ (List (Replies 
   )
 
   pub line_text : (mark : LineMark) (line : List ℕ) → LineSays Shortest mark reply line
-      → IsText (marked (byte_of (Line mark)) line)
+      → Encodes protocol level reply (marked (byte_of (Line mark)) line)
   unfolding Ended
   line_text mark line says = led_text (Line mark) (line ++ line_end)
       (line_mark Shortest mark reply line says) (line, says, refl)
 
+  pub integer_text : (n : ℤ) → reply ≡ made.Integer n → FitsSigned w64 n
+      → Encodes protocol level reply (marked 58 (signed_decimal n))
+  integer_text n is fits =
+      line_text Colon (signed_decimal n) (n, shaped is (integer_is n), (fits, refl))
+
   pub data_text : (mark : DataMark) (bytes : Bor (List ℕ))
       → shape_of reply ≡ (Data mark, Bytes bytes) → Fits (formatted mark) bytes.now
-      → length bytes.now < 2 ^ 63 → IsText (data_of (byte_of (Data mark)) bytes.now)
+      → length bytes.now < 2 ^ 63
+      → Encodes protocol level reply (data_of (byte_of (Data mark)) bytes.now)
   unfolding Led Ended DataText CountedText
   data_text mark bytes is fits small =
       let size = decimal (length bytes.now) in
@@ -179,8 +189,8 @@ module _ {A : Type 0} (protocol : Protocol) (elements : Text ℕ (List (Replies 
 
   pub aggregate_text : (mark : AggregateMark) (size : ℕ) (list : Vec (Replies A) A)
       (xs : List ℕ) → shape_of reply ≡ (Aggregate mark, Items list)
-      → length list.items ≡ many mark size → elements list.items xs
-      → IsText (marked (byte_of (Aggregate mark)) (decimal size) ++ xs)
+      → length list.items ≡ many mark size → ElementsIn Shortest protocol level list.items xs
+      → Encodes protocol level reply (marked (byte_of (Aggregate mark)) (decimal size) ++ xs)
   unfolding Led Ended
   aggregate_text mark size list xs is count are =
       led_text (Aggregate mark) ((decimal size ++ line_end) ++ xs) (mark_is reply is) (
@@ -193,13 +203,13 @@ module _ {A : Type 0} (protocol : Protocol) (elements : Text ℕ (List (Replies 
       )
 
   pub null_bulk_text : shape_of reply ≡ (Data Dollar, Nothing)
-      → IsText (marked 36 (45 ∷ 49 ∷ []))
+      → Encodes protocol level reply (marked 36 (45 ∷ 49 ∷ []))
   unfolding Led Ended
   null_bulk_text is = led_text (Data Dollar) (45 ∷ 49 ∷ line_end) (mark_is reply is)
       (None, 45 ∷ 49 ∷ line_end, [], (45 ∷ 49 ∷ [], refl, refl), (is, refl), refl)
 
   pub null_array_text : shape_of reply ≡ (Aggregate Star, Nothing)
-      → IsText (marked 42 (45 ∷ 49 ∷ []))
+      → Encodes protocol level reply (marked 42 (45 ∷ 49 ∷ []))
   unfolding Led Ended
   null_array_text is = led_text (Aggregate Star) (45 ∷ 49 ∷ line_end) (mark_is reply is)
       (None, 45 ∷ 49 ∷ line_end, [], (45 ∷ 49 ∷ [], refl, refl), (is, refl), refl)

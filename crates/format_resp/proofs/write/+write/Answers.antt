@@ -9,15 +9,14 @@ use Rattle.format_resp.proofs.Made.{big_number_is, boolean_is, bulk_error_is, bu
 use Rattle.format_resp.proofs.Made.{error_is, null_array_is, null_bulk_is, null_is}
 use Rattle.format_resp.proofs.Made.{shaped, simple_is, verbatim_is}
 use Rattle.format_resp.proofs.OnlyTexts.{written_only}
-use Rattle.format_resp.proofs.Rooms.{aggregate_full, data_err, data_full, full_err, full_with}
-use Rattle.format_resp.proofs.Rooms.{integer_err, lacks_behind, lacks_first, line_err}
-use Rattle.format_resp.proofs.Rooms.{null_array_err, null_bulk_err, row_behind, row_first}
-use Rattle.format_resp.proofs.Rooms.{valid_full}
-use Rattle.format_resp.proofs.Writing.{aggregate_put, among, as_error, data_put, deep_aggregate}
-use Rattle.format_resp.proofs.Writing.{if_error, integer_put, keeps_trans, line_put, list_put}
-use Rattle.format_resp.proofs.Writing.{null_array_put}
-use Rattle.format_resp.proofs.Writing.{null_bulk_put, or_itself, refused_count, refused_foreign}
-use Rattle.format_resp.proofs.Writing.{refused_form, refused_within, row_end, row_more, valid_put}
+use Rattle.format_resp.proofs.Rooms.{aggregate_full, full_err, lacks_behind, lacks_first}
+use Rattle.format_resp.proofs.Rooms.{row_behind, row_first, text_err, valid_full}
+use Rattle.format_resp.proofs.Writing.{adds, aggregate_put, among, as_error, deep_aggregate}
+use Rattle.format_resp.proofs.Writing.{if_error, keeps_trans, list_put, or_itself, refused_count}
+use Rattle.format_resp.proofs.Writing.{refused_foreign, refused_within, row_end, row_more}
+use Rattle.format_resp.proofs.Writing.{valid_put}
+use Rattle.format_resp.proofs.WrittenTexts.{data_text, integer_text, line_text, null_array_text}
+use Rattle.format_resp.proofs.WrittenTexts.{null_bulk_text}
 use Rattle.format_resp.specs.Numbers.{IsBigNumber, IsDouble}
 use Rattle.format_resp.specs.Resp.{InLine, WrittenText, gathered}
 use Rattle.format_resp.specs.Written.{IsBroken, marked}
@@ -150,8 +149,9 @@ write_nested-returns-then-is_foreign-clause-refused g t c =
 pub write_nested-returns-in-Simple-clause-written :
     goal.write_nested-returns-in-Simple-clause-written
 write_nested-returns-in-Simple-clause-written g t c =
-    valid_put c.args.protocol c.args.level _ _ _ Plus _ c.if-is_foreign.ensures
-    (λ valid. (_, shaped c.in-Simple.is (simple_is _), shown_is (AllByRecursion InLine) _ valid))
+    valid_put c.args.protocol c.args.level _ _ _ _ c.if-is_foreign.ensures
+    (λ valid. line_text c.args.protocol c.args.level _ Plus _
+    (_, shaped c.in-Simple.is (simple_is _), shown_is (AllByRecursion InLine) _ valid))
     c.write_text.result c.write_text.ensures.written
 
 pub write_nested-returns-in-Simple-clause-refused :
@@ -163,8 +163,9 @@ write_nested-returns-in-Simple-clause-refused g t c =
 
 pub write_nested-returns-in-Error-clause-written : goal.write_nested-returns-in-Error-clause-written
 write_nested-returns-in-Error-clause-written g t c =
-    valid_put c.args.protocol c.args.level _ _ _ Minus _ c.if-is_foreign.ensures
-    (λ valid. (_, shaped c.in-Error.is (error_is _), shown_is (AllByRecursion InLine) _ valid))
+    valid_put c.args.protocol c.args.level _ _ _ _ c.if-is_foreign.ensures
+    (λ valid. line_text c.args.protocol c.args.level _ Minus _
+    (_, shaped c.in-Error.is (error_is _), shown_is (AllByRecursion InLine) _ valid))
     c.write_text-in-Error.result c.write_text-in-Error.ensures.written
 
 pub write_nested-returns-in-Error-clause-refused : goal.write_nested-returns-in-Error-clause-refused
@@ -176,8 +177,9 @@ write_nested-returns-in-Error-clause-refused g t c =
 pub write_nested-returns-in-Double-clause-written :
     goal.write_nested-returns-in-Double-clause-written
 write_nested-returns-in-Double-clause-written g t c =
-    valid_put c.args.protocol c.args.level _ _ _ Comma _ c.if-is_foreign.ensures
-    (λ valid. (_, shaped c.in-Double.is (double_is _), shown_is IsDouble _ valid))
+    valid_put c.args.protocol c.args.level _ _ _ _ c.if-is_foreign.ensures
+    (λ valid. line_text c.args.protocol c.args.level _ Comma _
+    (_, shaped c.in-Double.is (double_is _), shown_is IsDouble _ valid))
     c.write_double.result c.write_double.ensures.written
 
 pub write_nested-returns-in-Double-clause-refused :
@@ -190,8 +192,9 @@ write_nested-returns-in-Double-clause-refused g t c =
 pub write_nested-returns-in-BigNumber-clause-written :
     goal.write_nested-returns-in-BigNumber-clause-written
 write_nested-returns-in-BigNumber-clause-written g t c =
-    valid_put c.args.protocol c.args.level _ _ _ Parenthesis _ c.if-is_foreign.ensures
-    (λ valid. (_, shaped c.in-BigNumber.is (big_number_is _), shown_is IsBigNumber _ valid))
+    valid_put c.args.protocol c.args.level _ _ _ _ c.if-is_foreign.ensures
+    (λ valid. line_text c.args.protocol c.args.level _ Parenthesis _
+    (_, shaped c.in-BigNumber.is (big_number_is _), shown_is IsBigNumber _ valid))
     c.write_big_number.result c.write_big_number.ensures.written
 
 pub write_nested-returns-in-BigNumber-clause-refused :
@@ -204,10 +207,10 @@ write_nested-returns-in-BigNumber-clause-refused g t c =
 pub write_nested-returns-in-Verbatim-clause-written :
     goal.write_nested-returns-in-Verbatim-clause-written
 write_nested-returns-in-Verbatim-clause-written g t c =
-    on_ok_weaker c.write_verbatim.result
-    (λ told. data_put c.args.protocol c.args.level c.if-is_foreign.ensures Equals _
-    (shaped c.in-Verbatim.is (verbatim_is _)) told.0 (search rules) told.1)
-    c.write_verbatim.ensures.written
+    valid_put c.args.protocol c.args.level _ _ _ _ c.if-is_foreign.ensures
+    (λ valid. data_text c.args.protocol c.args.level _ Equals _
+    (shaped c.in-Verbatim.is (verbatim_is _)) valid (search rules))
+    c.write_verbatim.result c.write_verbatim.ensures.written
 
 pub write_nested-returns-in-Verbatim-clause-refused :
     goal.write_nested-returns-in-Verbatim-clause-refused
@@ -221,40 +224,20 @@ write_nested-returns-in-Array-clause-written g t c =
     list_put c.args.protocol c.args.level Star _ _ _ c.in-Array.is c.if-is_foreign.ensures
     c.write_list.result c.write_list.ensures.written
 
-pub write_nested-returns-in-Array-clause-refused : goal.write_nested-returns-in-Array-clause-refused
-write_nested-returns-in-Array-clause-refused g t c =
-    refused_form c.args.protocol c.args.level c.in-Array.is c.write_list.result
-    c.write_list.ensures.refused
-
 pub write_nested-returns-in-Map-clause-written : goal.write_nested-returns-in-Map-clause-written
 write_nested-returns-in-Map-clause-written g t c =
     list_put c.args.protocol c.args.level Percent _ _ _ c.in-Map.is c.if-is_foreign.ensures
     c.write_list-in-Map.result c.write_list-in-Map.ensures.written
-
-pub write_nested-returns-in-Map-clause-refused : goal.write_nested-returns-in-Map-clause-refused
-write_nested-returns-in-Map-clause-refused g t c =
-    refused_form c.args.protocol c.args.level c.in-Map.is c.write_list-in-Map.result
-    c.write_list-in-Map.ensures.refused
 
 pub write_nested-returns-in-Set-clause-written : goal.write_nested-returns-in-Set-clause-written
 write_nested-returns-in-Set-clause-written g t c =
     list_put c.args.protocol c.args.level Tilde _ _ _ c.in-Set.is c.if-is_foreign.ensures
     c.write_list-in-Set.result c.write_list-in-Set.ensures.written
 
-pub write_nested-returns-in-Set-clause-refused : goal.write_nested-returns-in-Set-clause-refused
-write_nested-returns-in-Set-clause-refused g t c =
-    refused_form c.args.protocol c.args.level c.in-Set.is c.write_list-in-Set.result
-    c.write_list-in-Set.ensures.refused
-
 pub write_nested-returns-in-Push-clause-written : goal.write_nested-returns-in-Push-clause-written
 write_nested-returns-in-Push-clause-written g t c =
     list_put c.args.protocol c.args.level Greater _ _ _ c.in-Push.is c.if-is_foreign.ensures
     c.write_list-in-Push.result c.write_list-in-Push.ensures.written
-
-pub write_nested-returns-in-Push-clause-refused : goal.write_nested-returns-in-Push-clause-refused
-write_nested-returns-in-Push-clause-refused g t c =
-    refused_form c.args.protocol c.args.level c.in-Push.is c.write_list-in-Push.result
-    c.write_list-in-Push.ensures.refused
 
 pub write_nested-returns-in-Attributed-clause-written :
     goal.write_nested-returns-in-Attributed-clause-written
@@ -262,134 +245,136 @@ write_nested-returns-in-Attributed-clause-written g t c =
     list_put c.args.protocol c.args.level Bar _ _ _ c.in-Attributed.is c.if-is_foreign.ensures
     c.write_list-in-Attributed.result c.write_list-in-Attributed.ensures.written
 
-pub write_nested-returns-in-Attributed-clause-refused :
-    goal.write_nested-returns-in-Attributed-clause-refused
-write_nested-returns-in-Attributed-clause-refused g t c =
-    refused_form c.args.protocol c.args.level c.in-Attributed.is c.write_list-in-Attributed.result
-    c.write_list-in-Attributed.ensures.refused
-
 pub write_nested-returns-in_ok-write_integer-in-Integer-clause-written :
     goal.write_nested-returns-in_ok-write_integer-in-Integer-clause-written
 write_nested-returns-in_ok-write_integer-in-Integer-clause-written g t c =
-    integer_put c.args.protocol c.args.level c.if-is_foreign.ensures
-    c.in_ok-write_integer-in-Integer.ensures.written
-    (search (rules, c.in-Integer.is)) (search rules)
+    adds _ (integer_text c.args.protocol c.args.level _ _ (search (rules, c.in-Integer.is))
+    (search rules) c.if-is_foreign.ensures) c.in_ok-write_integer-in-Integer.ensures.written
 
 pub write_nested-returns-in_ok-write_line-in-Null-clause-written :
     goal.write_nested-returns-in_ok-write_line-in-Null-clause-written
 write_nested-returns-in_ok-write_line-in-Null-clause-written g t c =
-    line_put c.args.protocol c.args.level c.if-is_foreign.ensures Underscore []
-    (shaped c.in-Null.is null_is, refl) c.in_ok-write_line-in-Null.ensures.written
+    adds _ (line_text c.args.protocol c.args.level _ Underscore []
+    (shaped c.in-Null.is null_is, refl) c.if-is_foreign.ensures)
+    c.in_ok-write_line-in-Null.ensures.written
 
 pub write_nested-returns-in_ok-write_line-in-Boolean-clause-written :
     goal.write_nested-returns-in_ok-write_line-in-Boolean-clause-written
 write_nested-returns-in_ok-write_line-in-Boolean-clause-written g t c =
-    line_put c.args.protocol c.args.level c.if-is_foreign.ensures Hash _
-    (_, shaped c.in-Boolean.is (boolean_is _), c.boolean_text.ensures)
+    adds _ (line_text c.args.protocol c.args.level _ Hash _
+    (_, shaped c.in-Boolean.is (boolean_is _), c.boolean_text.ensures) c.if-is_foreign.ensures)
     c.in_ok-write_line-in-Boolean.ensures.written
 
 pub write_nested-returns-in_ok-write_data-in-BulkError-clause-written :
     goal.write_nested-returns-in_ok-write_data-in-BulkError-clause-written
 write_nested-returns-in_ok-write_data-in-BulkError-clause-written g t c =
-    data_put c.args.protocol c.args.level c.if-is_foreign.ensures Exclamation _
-    (shaped c.in-BulkError.is (bulk_error_is _)) tt (search rules)
+    adds _ (data_text c.args.protocol c.args.level _ Exclamation _
+    (shaped c.in-BulkError.is (bulk_error_is _)) tt (search rules) c.if-is_foreign.ensures)
     c.in_ok-write_data-in-BulkError.ensures.written
 
 pub write_nested-returns-in_ok-write_data-in-Bulk-clause-written :
     goal.write_nested-returns-in_ok-write_data-in-Bulk-clause-written
 write_nested-returns-in_ok-write_data-in-Bulk-clause-written g t c =
-    data_put c.args.protocol c.args.level c.if-is_foreign.ensures Dollar _
-    (shaped c.in-Bulk.is (bulk_is _)) tt (search rules)
+    adds _ (data_text c.args.protocol c.args.level _ Dollar _
+    (shaped c.in-Bulk.is (bulk_is _)) tt (search rules) c.if-is_foreign.ensures)
     c.in_ok-write_data-in-Bulk.ensures.written
 
 pub write_nested-returns-in_ok-write_line-in-NullBulk-clause-written :
     goal.write_nested-returns-in_ok-write_line-in-NullBulk-clause-written
 write_nested-returns-in_ok-write_line-in-NullBulk-clause-written g t c =
-    null_bulk_put c.args.protocol c.args.level c.if-is_foreign.ensures
-    (shaped c.in-NullBulk.is null_bulk_is)
-    c.in_ok-write_line-in-NullBulk.ensures.written
+    adds _ (null_bulk_text c.args.protocol c.args.level _ (shaped c.in-NullBulk.is null_bulk_is)
+    c.if-is_foreign.ensures) c.in_ok-write_line-in-NullBulk.ensures.written
 
 pub write_nested-returns-in_ok-write_line-in-NullArray-clause-written :
     goal.write_nested-returns-in_ok-write_line-in-NullArray-clause-written
 write_nested-returns-in_ok-write_line-in-NullArray-clause-written g t c =
-    null_array_put c.args.protocol c.args.level c.if-is_foreign.ensures
-    (shaped c.in-NullArray.is null_array_is)
-    c.in_ok-write_line-in-NullArray.ensures.written
+    adds _ (null_array_text c.args.protocol c.args.level _ (shaped c.in-NullArray.is null_array_is)
+    c.if-is_foreign.ensures) c.in_ok-write_line-in-NullArray.ensures.written
 
 -- ---- replies for which there is no room
 
 pub write_nested-returns-in_err-write_integer-in-Integer-clause-full :
     goal.write_nested-returns-in_err-write_integer-in-Integer-clause-full
 write_nested-returns-in_err-write_integer-in-Integer-clause-full g t c =
-    integer_err c.args.protocol c.args.level _ c.args.into.now _ _
-    c.in_err-write_integer-in-Integer.ensures.full (search (rules, c.in-Integer.is)) (search rules)
+    text_err c.args.protocol c.args.level _ c.args.into.now _ _
+    (integer_text c.args.protocol c.args.level _ _ (search (rules, c.in-Integer.is))
+    (search rules)) c.in_err-write_integer-in-Integer.ensures.full
 
 pub write_nested-returns-in_err-write_line-in-Null-clause-full :
     goal.write_nested-returns-in_err-write_line-in-Null-clause-full
 write_nested-returns-in_err-write_line-in-Null-clause-full g t c =
-    line_err c.args.protocol c.args.level _ c.args.into.now _ Underscore []
-    (shaped c.in-Null.is null_is, refl) c.in_err-write_line-in-Null.ensures.full
+    text_err c.args.protocol c.args.level _ c.args.into.now _ _
+    (line_text c.args.protocol c.args.level _ Underscore [] (shaped c.in-Null.is null_is, refl))
+    c.in_err-write_line-in-Null.ensures.full
 
 pub write_nested-returns-in_err-write_line-in-Boolean-clause-full :
     goal.write_nested-returns-in_err-write_line-in-Boolean-clause-full
 write_nested-returns-in_err-write_line-in-Boolean-clause-full g t c =
-    line_err c.args.protocol c.args.level _ c.args.into.now _ Hash _
-    (_, shaped c.in-Boolean.is (boolean_is _), c.boolean_text.ensures)
+    text_err c.args.protocol c.args.level _ c.args.into.now _ _
+    (line_text c.args.protocol c.args.level _ Hash _
+    (_, shaped c.in-Boolean.is (boolean_is _), c.boolean_text.ensures))
     c.in_err-write_line-in-Boolean.ensures.full
 
 pub write_nested-returns-in_err-write_data-in-Bulk-clause-full :
     goal.write_nested-returns-in_err-write_data-in-Bulk-clause-full
 write_nested-returns-in_err-write_data-in-Bulk-clause-full g t c =
-    data_err c.args.protocol c.args.level _ c.args.into.now _ Dollar _
-    (shaped c.in-Bulk.is (bulk_is _)) tt (search rules) c.in_err-write_data-in-Bulk.ensures.full
+    text_err c.args.protocol c.args.level _ c.args.into.now _ _
+    (data_text c.args.protocol c.args.level _ Dollar _ (shaped c.in-Bulk.is (bulk_is _)) tt
+    (search rules)) c.in_err-write_data-in-Bulk.ensures.full
 
 pub write_nested-returns-in_err-write_data-in-BulkError-clause-full :
     goal.write_nested-returns-in_err-write_data-in-BulkError-clause-full
 write_nested-returns-in_err-write_data-in-BulkError-clause-full g t c =
-    data_err c.args.protocol c.args.level _ c.args.into.now _ Exclamation _
-    (shaped c.in-BulkError.is (bulk_error_is _)) tt (search rules)
+    text_err c.args.protocol c.args.level _ c.args.into.now _ _
+    (data_text c.args.protocol c.args.level _ Exclamation _
+    (shaped c.in-BulkError.is (bulk_error_is _)) tt (search rules))
     c.in_err-write_data-in-BulkError.ensures.full
 
 pub write_nested-returns-in_err-write_line-in-NullBulk-clause-full :
     goal.write_nested-returns-in_err-write_line-in-NullBulk-clause-full
 write_nested-returns-in_err-write_line-in-NullBulk-clause-full g t c =
-    null_bulk_err c.args.protocol c.args.level _ c.args.into.now _
-    (shaped c.in-NullBulk.is null_bulk_is) c.in_err-write_line-in-NullBulk.ensures.full
+    text_err c.args.protocol c.args.level _ c.args.into.now _ _
+    (null_bulk_text c.args.protocol c.args.level _ (shaped c.in-NullBulk.is null_bulk_is))
+    c.in_err-write_line-in-NullBulk.ensures.full
 
 pub write_nested-returns-in_err-write_line-in-NullArray-clause-full :
     goal.write_nested-returns-in_err-write_line-in-NullArray-clause-full
 write_nested-returns-in_err-write_line-in-NullArray-clause-full g t c =
-    null_array_err c.args.protocol c.args.level _ c.args.into.now _
-    (shaped c.in-NullArray.is null_array_is) c.in_err-write_line-in-NullArray.ensures.full
+    text_err c.args.protocol c.args.level _ c.args.into.now _ _
+    (null_array_text c.args.protocol c.args.level _ (shaped c.in-NullArray.is null_array_is))
+    c.in_err-write_line-in-NullArray.ensures.full
 
 pub write_nested-returns-in-Simple-clause-full : goal.write_nested-returns-in-Simple-clause-full
 write_nested-returns-in-Simple-clause-full g t c =
-    valid_full c.args.protocol c.args.level _ c.args.into.now _ Plus _
-    (λ valid. (_, shaped c.in-Simple.is (simple_is _), shown_is (AllByRecursion InLine) _ valid))
+    valid_full c.args.protocol c.args.level _ c.args.into.now _ _
+    (λ valid. line_text c.args.protocol c.args.level _ Plus _
+    (_, shaped c.in-Simple.is (simple_is _), shown_is (AllByRecursion InLine) _ valid))
     c.write_text.ensures.full
 
 pub write_nested-returns-in-Error-clause-full : goal.write_nested-returns-in-Error-clause-full
 write_nested-returns-in-Error-clause-full g t c =
-    valid_full c.args.protocol c.args.level _ c.args.into.now _ Minus _
-    (λ valid. (_, shaped c.in-Error.is (error_is _), shown_is (AllByRecursion InLine) _ valid))
+    valid_full c.args.protocol c.args.level _ c.args.into.now _ _
+    (λ valid. line_text c.args.protocol c.args.level _ Minus _
+    (_, shaped c.in-Error.is (error_is _), shown_is (AllByRecursion InLine) _ valid))
     c.write_text-in-Error.ensures.full
 
 pub write_nested-returns-in-Double-clause-full : goal.write_nested-returns-in-Double-clause-full
 write_nested-returns-in-Double-clause-full g t c =
-    valid_full c.args.protocol c.args.level _ c.args.into.now _ Comma _
-    (λ valid. (_, shaped c.in-Double.is (double_is _), shown_is IsDouble _ valid))
+    valid_full c.args.protocol c.args.level _ c.args.into.now _ _
+    (λ valid. line_text c.args.protocol c.args.level _ Comma _
+    (_, shaped c.in-Double.is (double_is _), shown_is IsDouble _ valid))
     c.write_double.ensures.full
 
 pub write_nested-returns-in-BigNumber-clause-full :
     goal.write_nested-returns-in-BigNumber-clause-full
 write_nested-returns-in-BigNumber-clause-full g t c =
-    valid_full c.args.protocol c.args.level _ c.args.into.now _ Parenthesis _
-    (λ valid. (_, shaped c.in-BigNumber.is (big_number_is _), shown_is IsBigNumber _ valid))
+    valid_full c.args.protocol c.args.level _ c.args.into.now _ _
+    (λ valid. line_text c.args.protocol c.args.level _ Parenthesis _
+    (_, shaped c.in-BigNumber.is (big_number_is _), shown_is IsBigNumber _ valid))
     c.write_big_number.ensures.full
 
 pub write_nested-returns-in-Verbatim-clause-full : goal.write_nested-returns-in-Verbatim-clause-full
 write_nested-returns-in-Verbatim-clause-full g t c =
-    full_with (WrittenText c.args.protocol c.args.level) c.args.reply.now c.args.into.now
-    c.write_verbatim.result c.write_verbatim.ensures.full
-    (λ valid. data_full c.args.protocol c.args.level c.args.reply.now c.args.into.now Equals _
-    (shaped c.in-Verbatim.is (verbatim_is _)) valid (search rules))
+    valid_full c.args.protocol c.args.level _ c.args.into.now _ _
+    (λ valid. data_text c.args.protocol c.args.level _ Equals _
+    (shaped c.in-Verbatim.is (verbatim_is _)) valid (search rules)) c.write_verbatim.ensures.full
