@@ -24,7 +24,7 @@ use Rattle.format_resp.specs.declared.reply.Protocol.{Protocol}
 
 -- ---- steps
 
-times_add : (step : Step) (k n : ℕ) (from mid to : List ℕ) → Times step k from mid
+pub times_add : (step : Step) (k n : ℕ) (from mid to : List ℕ) → Times step k from mid
     → Times step n mid to → Times step (k + n) from to
 unfolding Times
 times_add step zero n from mid to e more =

@@ -36,7 +36,7 @@ splits_led first behind a b = record {
   one = led_determined first behind (λ o p. o ≡ p) a (λ x. (b x).one);
 }
 
-says_all : (mark : Mark) (head : Head) (line : List ℕ) → Says mark head line
+pub says_all : (mark : Mark) (head : Head) (line : List ℕ) → Says mark head line
     → AllByRecursion InLine line
 says_all (Line mark) head line (is, (reply, a)) = (line_plain mark).plain reply line a
 says_all mark head line says =
@@ -102,6 +102,15 @@ too_many mark n line (digits, small) large = (
   digits.0,
 )
 
+-- the first line of a reply, taken apart: its mark, the line, and the rest after the line's end
+pub record LineAt (protocol : Protocol) (tokens : List ℕ) (head : Head) (rest : List ℕ) : Type 0
+  where
+    pub mark : Mark
+    pub line : List ℕ
+    pub within : IsIn protocol mark
+    pub says : Says mark head line
+    pub splits : tokens ≡ byte_of mark ∷ (line ++ (line_end ++ rest))
+
 module _ (protocol : Protocol) where
   pub head_splits : Splits (HeadText protocol)
   head_splits = splits_led (MarkText protocol) (λ mark. Ended (Says mark)) (mark_splits protocol)
@@ -127,37 +136,37 @@ module _ (protocol : Protocol) where
         ∙ ap (λ l. byte_of mark ∷ l) (e ∙ sym (append_assoc line line_end left)),
   )
 
+  pub line_at : {head : Head} (tokens rest : List ℕ) → First (HeadText protocol) tokens head rest
+      → LineAt protocol tokens head rest
+  unfolding First Led MarkText Ended
+  line_at tokens rest (front, (mark, ms, us, (within, m), (line, says, e), d), f) = record {
+    mark = mark;
+    line = line;
+    within = within;
+    says = says;
+    splits = f ∙ ap (λ l. l ++ rest) (d ∙ ap (λ l. l ++ us) m)
+        ∙ ap (λ l. byte_of mark ∷ (l ++ rest)) e
+        ∙ ap (λ l. byte_of mark ∷ l) (append_assoc line line_end rest);
+  }
+
   start_line : (head : Head) (byte : ℕ) (text rest : List ℕ)
       → First (HeadText protocol) (byte ∷ text) head rest
       → (mark : Mark) × (line : List ℕ) × IsIn protocol mark × (byte ≡ byte_of mark)
       × EndsLine text line rest × Says mark head line
-  unfolding First Led MarkText Ended
-  start_line head byte text rest (front, (mark, xs, ys, (within, is), (line, says, f), d), e) =
-      let split : byte ∷ text ≡ byte_of mark ∷ (ys ++ rest) =
-      e ∙ ap (λ l. l ++ rest) (d ∙ ap (λ l. l ++ ys) is) in (
-        mark,
-        line,
-        within,
-        same_first split,
-        (
-          says_all mark head line says,
-          same_others split ∙ ap (λ l. l ++ rest) f ∙ append_assoc line line_end rest,
-        ),
-        says,
+  start_line head byte text rest x =
+      let at = line_at (byte ∷ text) rest x in (
+        at.mark,
+        at.line,
+        at.within,
+        same_first at.splits,
+        (says_all at.mark head at.line at.says, same_others at.splits),
+        at.says,
       )
-
-  -- no first line in no bytes
-  start_none : (head : Head) (rest : List ℕ) → First (HeadText protocol) [] head rest → ⊥
-  unfolding First Led MarkText
-  start_none head rest (front, (mark, xs, ys, (within, is), says, d), e) =
-      let split : [] ≡ byte_of mark ∷ (ys ++ rest) =
-      e ∙ ap (λ l. l ++ rest) (d ∙ ap (λ l. l ++ ys) is) in
-      cc
 
   -- none where it is not ended
   pub begun_none : (tokens : List ℕ) → IsLinePrefix protocol tokens → (head : Head)
       (rest : List ℕ) → First (HeadText protocol) tokens head rest → ⊥
-  begun_none [] b head rest x = start_none head rest x
+  begun_none [] b head rest x = omega (arith, ap (λ l. length l) (line_at [] rest x).splits)
   begun_none (byte ∷ text) b head rest x =
       let (mark, line, within, is, ends, says) = start_line head byte text rest x in
       open_endless text b.begun line rest ends

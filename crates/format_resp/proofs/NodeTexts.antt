@@ -7,6 +7,7 @@ use Rattle.std.proofs.lemmas.List.{append-nil}
 use Rattle.streams.specs.Equal.{none_is_some, same_first, same_others, same_some}
 use Rattle.winnow_grammar.specs.InTurn.{First, Led}
 use Rattle.format_resp.proofs.FirstBytes.{one_mark}
+use Rattle.format_resp.proofs.FirstLines.{LineAt, line_at}
 use Rattle.format_resp.proofs.Made.{integer_is, null_array_is, null_bulk_is}
 use Rattle.format_resp.specs.Heads.{HeadText, Says, head_after}
 use Rattle.format_resp.specs.Nodes.{IsNode, bytes_node, kind_by, number_node}
@@ -23,22 +24,13 @@ use Rattle.format_resp.specs.declared.marks.AggregateMark.TheVariants.{Star}
 use Rattle.format_resp.specs.declared.marks.DataMark.{DataMark}
 use Rattle.format_resp.specs.declared.marks.DataMark.TheVariants.{Dollar}
 use Rattle.format_resp.specs.declared.marks.LineMark.{LineMark}
-use Rattle.format_resp.specs.declared.marks.LineMark.TheVariants.{Colon, Comma, Hash, Minus}
-use Rattle.format_resp.specs.declared.marks.LineMark.TheVariants.{Parenthesis, Plus, Underscore}
+use Rattle.format_resp.specs.declared.marks.LineMark.TheVariants.{Colon, Hash}
+use Rattle.format_resp.specs.declared.marks.LineMark.TheVariants.{Underscore}
 use Rattle.format_resp.specs.declared.marks.Mark.{Mark}
 use Rattle.format_resp.specs.declared.marks.Mark.TheVariants.{Aggregate, Data, Line}
 use Rattle.format_resp.specs.declared.node.RespNode.{RespNode}
 use Rattle.format_resp.specs.declared.reply.Protocol.{Protocol}
 use Rattle.format_resp.specs.declared.reply.Reply as made
-
--- the first line of a reply, taken apart: its mark, the line, and the rest after the line's end
-pub record LineAt (protocol : Protocol) (tokens : List ℕ) (head : Head) (rest : List ℕ) : Type 0
-  where
-    pub mark : Mark
-    pub line : List ℕ
-    pub within : IsIn protocol mark
-    pub says : Says mark head line
-    pub splits : tokens ≡ byte_of mark ∷ (line ++ (line_end ++ rest))
 
 -- what the line of a size is followed by, without a reply of one line
 abbrev pub is_data : Head → Type 0
@@ -49,20 +41,15 @@ abbrev pub is_list : Head → Type 0
 is_list (heads.Replies n) = ⊤
 is_list head = ⊥
 
-module _ (protocol : Protocol) where
-  pub line_at : {head : Head} (tokens rest : List ℕ) → First (HeadText protocol) tokens head rest
-      → LineAt protocol tokens head rest
-  unfolding First Led MarkText Ended
-  line_at tokens rest (front, (mark, ms, us, (within, m), (line, says, e), d), f) = record {
-    mark = mark;
-    line = line;
-    within = within;
-    says = says;
-    splits = f ∙ ap (λ l. l ++ rest) (d ∙ ap (λ l. l ++ us) m)
-        ∙ ap (λ l. byte_of mark ∷ (l ++ rest)) e
-        ∙ ap (λ l. byte_of mark ∷ l) (append_assoc line line_end rest);
-  }
+-- a node of a reply of such contents
+shaped_node : (mark : Mark) (content : Content ⊤) (reply : Replies ⊤) (from index : ℕ)
+    (text : List ℕ) (node : RespNode) → shape_of reply ≡ (mark, content)
+    → IsNode mark content from index text node
+    → IsNode (shape_of reply).0 (shape_of reply).1 from index text node
+shaped_node mark content reply from index text node is =
+    subst (λ (s : Mark × Content ⊤). IsNode s.0 s.1 from index text node) (sym is)
 
+module _ (protocol : Protocol) where
   -- a reply, by what follows its mark
   text_by : {A : Type 0} (level : ℕ) (mark : Mark) (reply : Replies A) (body : List ℕ)
       → IsIn protocol mark → Body Any (Elements protocol level) mark reply body
@@ -131,55 +118,48 @@ module _ (protocol : Protocol) where
   )
   null_list mark None line within is e = none_is_some e
 
-  -- the whole of such bytes is their first line, and the rest
-  whole_line : (byte : ℕ) (line rest : List ℕ) {tokens : List ℕ}
-      → tokens ≡ byte ∷ (line ++ (line_end ++ rest))
-      → tokens ≡ (byte ∷ (line ++ line_end)) ++ rest
-  whole_line byte line rest e =
-      e ∙ ap (λ l. byte ∷ l) (sym (append_assoc line line_end rest))
-
-  -- the node of a null
-  null_node : (from index : ℕ) (mark : Mark) (reply : Replies ⊤) (text : List ℕ) (node : RespNode)
-      → shape_of reply ≡ (mark, Nothing) → IsNode {A = ⊤} mark Nothing from index text node
-      → IsNode (shape_of reply).0 (shape_of reply).1 from index text node
-  null_node from index mark reply text node is =
-      subst (λ (s : Mark × Content ⊤). IsNode s.0 s.1 from index text node) (sym is)
-
   module _ (size index : ℕ) (bytes rest : List ℕ) (node : RespNode) where
+    -- that of a reply of this text
+    ended_by : (mark : Mark) (reply : Replies ⊤) (at : LineAt protocol bytes heads.Ends rest)
+        → at.mark ≡ mark
+        → ((level : ℕ)
+        → ReplyText protocol level reply (byte_of mark ∷ (at.line ++ line_end)))
+        → IsNode (shape_of reply).0 (shape_of reply).1 (size - length bytes) index
+        (byte_of mark ∷ (at.line ++ line_end)) node
+        → IsSingleNode protocol size index bytes rest node
+    ended_by mark reply at is texts node_is =
+        let Q : Mark → Type 0 = λ m. bytes ≡ byte_of m ∷ (at.line ++ (line_end ++ rest)) in record {
+          reply = reply;
+          text = byte_of mark ∷ (at.line ++ line_end);
+          is_reply = texts;
+          splits = subst Q is at.splits
+              ∙ ap (λ l. byte_of mark ∷ l) (sym (append_assoc at.line line_end rest));
+          is_node = node_is;
+        }
+
     pub ended_data : (mark : DataMark) → node ≡ number_node 4 (pos 0) (index + 1)
         → (at : LineAt protocol bytes heads.Ends rest) → at.mark ≡ Data mark
         → IsSingleNode protocol size index bytes rest node
     ended_data mark e at is =
         let P : Mark → Type 0 = λ m. Says m heads.Ends at.line in
-        let Q : Mark → Type 0 = λ m. bytes ≡ byte_of m ∷ (at.line ++ (line_end ++ rest)) in
         let (given, sizes, heads_are, small) = subst P is at.says in
         let (reply, shape_is, texts) =
         null_data mark given at.line (subst (IsIn protocol) is at.within) sizes heads_are in
-        let text = byte_of (Data mark) ∷ (at.line ++ line_end) in record {
-          reply = reply;
-          text = text;
-          is_reply = texts;
-          splits = whole_line (byte_of (Data mark)) at.line rest (subst Q is at.splits);
-          is_node = null_node (size - length bytes) index (Data Dollar) reply text node shape_is e;
-        }
+        ended_by (Data mark) reply at is texts
+        (shaped_node (Data Dollar) Nothing reply (size - length bytes) index
+        (byte_of (Data mark) ∷ (at.line ++ line_end)) node shape_is e)
 
     pub ended_list : (mark : AggregateMark) → node ≡ number_node 6 (pos 0) (index + 1)
         → (at : LineAt protocol bytes heads.Ends rest) → at.mark ≡ Aggregate mark
         → IsSingleNode protocol size index bytes rest node
     ended_list mark e at is =
         let P : Mark → Type 0 = λ m. Says m heads.Ends at.line in
-        let Q : Mark → Type 0 = λ m. bytes ≡ byte_of m ∷ (at.line ++ (line_end ++ rest)) in
         let (given, sizes, heads_are, small) = subst P is at.says in
         let (reply, shape_is, texts) =
         null_list mark given at.line (subst (IsIn protocol) is at.within) sizes heads_are in
-        let text = byte_of (Aggregate mark) ∷ (at.line ++ line_end) in record {
-          reply = reply;
-          text = text;
-          is_reply = texts;
-          splits = whole_line (byte_of (Aggregate mark)) at.line rest (subst Q is at.splits);
-          is_node = null_node (size - length bytes) index (Aggregate Star) reply text node
-              shape_is e;
-        }
+        ended_by (Aggregate mark) reply at is texts
+        (shaped_node (Aggregate Star) Nothing reply (size - length bytes) index
+        (byte_of (Aggregate mark) ∷ (at.line ++ line_end)) node shape_is e)
 
     pub ended_line : (mark : LineMark) (start : ℕ) → start + length bytes ≡ size + 1
         → length bytes ≤ size → (at : LineAt protocol bytes heads.Ends rest) → at.mark ≡ Line mark
@@ -188,29 +168,16 @@ module _ (protocol : Protocol) where
         → IsSingleNode protocol size index bytes rest node
     ended_line mark start begins room at is node_of =
         let P : Mark → Type 0 = λ m. Says m heads.Ends at.line in
-        let Q : Mark → Type 0 = λ m. bytes ≡ byte_of m ∷ (at.line ++ (line_end ++ rest)) in
         let (same, (other, says_other)) = subst P is at.says in
         let (reply, says, node_is) = node_of other says_other in
-        let text = byte_of (Line mark) ∷ (at.line ++ line_end) in record {
-          reply = reply;
-          text = text;
-          is_reply = λ level. line_text level mark reply at.line
-              (subst (IsIn protocol) is at.within) says;
-          splits = whole_line (byte_of (Line mark)) at.line rest (subst Q is at.splits);
-          is_node = node_is (size - length bytes) text
-              (omega (arith, begins, room, length-append at.line line_end));
-        }
+        ended_by (Line mark) reply at is (λ level. line_text level mark reply at.line
+        (subst (IsIn protocol) is at.within) says)
+        (node_is (size - length bytes) (byte_of (Line mark) ∷ (at.line ++ line_end))
+        (omega (arith, begins, room, length-append at.line line_end)))
 
 -- ---- replies of one line
 
 module _ (line : List ℕ) (start index : ℕ) (node : RespNode) where
-  -- a node of a reply of such contents
-  shaped_node : (mark : Mark) (content : Content ⊤) (reply : Replies ⊤) (from : ℕ) (text : List ℕ)
-      → shape_of reply ≡ (mark, content) → IsNode mark content from index text node
-      → IsNode (shape_of reply).0 (shape_of reply).1 from index text node
-  shaped_node mark content reply from text is =
-      subst (λ (s : Mark × Content ⊤). IsNode s.0 s.1 from index text node) (sym is)
-
   pub number_line : (n m : ℤ) → SignedText n line → m ≡ n → node ≡ number_node 2 m (index + 1)
       → IsLineNode Colon line start index node
   number_line n m is same e =
@@ -218,7 +185,7 @@ module _ (line : List ℕ) (start index : ℕ) (node : RespNode) where
         made.Integer n,
         (n, shape_is, is),
         λ from text long.
-            shaped_node (Line Colon) (Number n) (made.Integer n) from text shape_is
+            shaped_node (Line Colon) (Number n) (made.Integer n) from index text node shape_is
             (e ∙ ap (λ k. number_node 2 k (index + 1)) same),
       )
 
@@ -229,7 +196,7 @@ module _ (line : List ℕ) (start index : ℕ) (node : RespNode) where
       → IsNode (shape_of reply).0 (shape_of reply).1 from index whole node
   text_node mark text reply is shows e from whole long =
       let same : length line ≡ length text.now = ap (λ l. length l) (sym shows) in
-      shaped_node (Line mark) (Bytes text) reply from whole is (
+      shaped_node (Line mark) (Bytes text) reply from index whole node is (
         start,
         ap (λ n. start + (n + 2)) (sym same) ∙ long,
         e ∙ ap (λ n. bytes_node (kind_by (Line mark)) 0 start (start + n) (index + 1)) same,
@@ -244,14 +211,8 @@ module _ (line : List ℕ) (start index : ℕ) (node : RespNode) where
   text_line Colon reply a b c says e = absurd (a refl)
   text_line Underscore reply a b c says e = absurd (b refl)
   text_line Hash reply a b c says e = absurd (c refl)
-  text_line Plus reply a b c (text, is, (all, shows)) e =
-      (reply, (text, is, (all, shows)), text_node Plus text reply is shows e)
-  text_line Minus reply a b c (text, is, (all, shows)) e =
-      (reply, (text, is, (all, shows)), text_node Minus text reply is shows e)
-  text_line Comma reply a b c (text, is, (all, shows)) e =
-      (reply, (text, is, (all, shows)), text_node Comma text reply is shows e)
-  text_line Parenthesis reply a b c (text, is, (all, shows)) e =
-      (reply, (text, is, (all, shows)), text_node Parenthesis text reply is shows e)
+  text_line mark reply a b c says e =
+      let (text, is, (all, shows)) = says in (reply, says, text_node mark text reply is shows e)
 
 -- ---- bytes that do not start with a first line
 

@@ -7,9 +7,10 @@ use Rattle.std.proofs.Common.{◌∙◌, ap, append_assoc, arith, length-append,
 use Rattle.streams.specs.Equal.{none_is_some, same_some}
 use Rattle.winnow_grammar.specs.InTurn.{First, Led}
 use Rattle.grammars.specs.Texts.{CountedText, EachText}
+use Rattle.format_resp.proofs.FirstLines.{line_at, says_all, start_stands}
 use Rattle.format_resp.proofs.Made.{gathered_is, string_is}
 use Rattle.format_resp.proofs.NodeRows.{same_at}
-use Rattle.format_resp.proofs.NodeTexts.{is_data, is_list, line_at, sized_data, sized_list}
+use Rattle.format_resp.proofs.NodeTexts.{is_data, is_list, sized_data, sized_list}
 use Rattle.format_resp.proofs.Overlay.{overlay_all, overlay_before, set_overlay}
 use Rattle.format_resp.proofs.WrittenTexts.{list_for}
 use Rattle.format_resp.specs.Heads.{HeadText, Says}
@@ -99,11 +100,6 @@ list_line (Aggregate mark) line count (Some n, a, is, small) =
 list_line (Aggregate Star) line count (None, a, is, small) =
     absurd (subst is_list (sym (same_some is)) tt)
 list_line (Aggregate mark) line count (None, a, is, small) = none_is_some is
-
--- it is not of too many
-says_small : (mark : AggregateMark) (count : ℕ) (line : List ℕ)
-    → Says (Aggregate mark) (heads.Replies count) line → count < 2 ^ 63
-says_small mark count line (size, a, is, small) = small
 
 -- ---- replies without elements
 
@@ -252,17 +248,6 @@ module _ (protocol : Protocol) where
         f,
       )
 
-  -- the first line
-  head_text : (mark : Mark) (head : Head) (line more : List ℕ) → IsIn protocol mark
-      → Says mark head line
-      → First (HeadText protocol) (byte_of mark ∷ ((line ++ line_end) ++ more)) head more
-  unfolding First Led MarkText Ended
-  head_text mark head line more within says = (
-    byte_of mark ∷ (line ++ line_end),
-    (mark, byte_of mark ∷ [], line ++ line_end, (within, refl), (line, says, refl), refl),
-    refl,
-  )
-
   list_nodes : (inner from index start count : ℕ) (mark : AggregateMark) (line elements : List ℕ)
       (size : ℕ) (others : List RespNode) (replies : List (Replies ⊤))
       → IsIn protocol (Aggregate mark) → SizeLine (Some size) line → many mark size ≡ count
@@ -283,7 +268,6 @@ module _ (protocol : Protocol) where
       let items : length list.items ≡ count = ap (λ l. length l) same ∙ long in
       let each = each_text inner replies start (index + 1) others elements row in
       let T : List ℕ → Type 0 = λ l. ReplyText protocol (suc inner) reply l in
-      let H : List ℕ → Type 0 = λ l. First (HeadText protocol) l (heads.Replies count) elements in
       let P : List (Replies ⊤) → Type 0 = λ l. EachText (ReplyText protocol inner) l elements in
       let R : List (Replies ⊤) → Type 0 = λ l.
       EachNodes (NodesOf protocol inner) l start (index + 1) others elements in
@@ -301,8 +285,12 @@ module _ (protocol : Protocol) where
             elements,
             others,
             start,
-            subst N (sym items) (subst H (sym e)
-                (head_text (Aggregate mark) (heads.Replies count) line elements within says)),
+            subst N (sym items) (start_stands protocol (Aggregate mark) (heads.Replies count)
+                (byte_of (Aggregate mark)) text ((line ++ line_end) ++ elements) line elements
+                within refl e (
+                  says_all (Aggregate mark) (heads.Replies count) line says,
+                  append_assoc line line_end elements,
+                ) says),
             ends,
             subst R (sym same) row,
             ap (λ n. bytes_node (kind_by (Aggregate mark)) n start (from + length text)
@@ -327,6 +315,7 @@ module _ (protocol : Protocol) where
       let P : Mark → Type 0 = λ m. bytes ≡ byte_of m ∷ (at.line ++ (line_end ++ left)) in
       let Q : Mark → Type 0 = λ m. Says m (heads.Replies count) at.line in
       let says = subst Q by.is at.says in
+      let (given, sizes, counts, small) = says in
       let splits = subst P by.is at.splits in
       let text = byte_of (Aggregate mark) ∷ ((at.line ++ line_end) ++ row.text) in
       let joins = after_line (byte_of (Aggregate mark)) at.line row.text left rest splits
@@ -348,7 +337,7 @@ module _ (protocol : Protocol) where
         text = text;
         are_nodes = list_nodes inner from index start count mark at.line row.text by.size row.nodes
             replies (subst (IsIn protocol) by.is at.within) by.sizes by.counts says
-            (says_small mark count at.line says) long
+            small long
             (same_at (EachNodes (NodesOf protocol inner) replies) (size - length left) (index + 1)
             row.nodes row.text (omega (arith, begins)) refl are) text refl
             (omega (arith, begins, room, whole, parts, split, tail));

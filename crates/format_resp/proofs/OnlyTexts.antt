@@ -3,16 +3,15 @@ use Rattle.std.specs.Prelude.{◌≡◌, ◌++◌, Bool, true, false, ℕ, ℤ, 
 use Rattle.std.specs.Prelude.{pos, Option, None, Some}
 use Rattle.std.specs.Borrow.{Bor}
 use Rattle.std.specs.Fmt.{signed_decimal}
-use Rattle.std.specs.declared.vec.Vec.{Vec}
 use Rattle.std.proofs.Common.{ap, arith, refl, subst, sym, ◌∙◌}
 use Rattle.winnow_grammar.specs.InTurn.{Led}
 use Rattle.grammars.specs.Texts.{CountedText, EachText, Text}
-use Rattle.format_resp.proofs.Made.{line_mark, mark_is}
+use Rattle.format_resp.proofs.Refusals.{body_sound}
 use Rattle.format_resp.specs.Resp.{AggregateBehind, Body, BooleanText, Bytes, Content, DataBehind}
-use Rattle.format_resp.specs.Resp.{DataText, ElementsIn, Ended, IsIn, Items, LineSays, MarkText}
+use Rattle.format_resp.specs.Resp.{DataText, ElementsIn, Ended, Items, LineSays, MarkText}
 use Rattle.format_resp.specs.Resp.{Nothing, Number, Replies, Shortest, Shown, SizeIn, Truth}
 use Rattle.format_resp.specs.Resp.{WrittenText}
-use Rattle.format_resp.specs.Resp.{byte_of, first_mark, line_end, many, shape_of}
+use Rattle.format_resp.specs.Resp.{byte_of, line_end, many, shape_of}
 use Rattle.format_resp.specs.declared.marks.AggregateMark.{AggregateMark}
 use Rattle.format_resp.specs.declared.marks.AggregateMark.TheVariants.{Bar, Percent, Star}
 use Rattle.format_resp.specs.declared.marks.DataMark.{DataMark}
@@ -97,48 +96,6 @@ sized_only m n a b xs ys same s t e =
 
 -- ---- replies
 
-module _ {A : Type 0} (elements : Text ℕ (List (Replies A))) where
-  body_mark : (mark : Mark) (reply : Replies A) (xs : List ℕ) → Body Shortest elements mark reply xs
-      → first_mark reply ≡ mark
-  unfolding Led Ended
-  body_mark (Line mark) reply xs (line, says, e) = line_mark Shortest mark reply line says
-  body_mark (Data mark) reply xs (Some n, a, x, s, (y, is, b), e) = mark_is reply is
-  body_mark (Data Dollar) reply xs (None, a, x, s, (is, b), e) = mark_is reply is
-  body_mark (Data mark) reply xs (None, a, x, s, never, e) = absurd never
-  body_mark (Aggregate mark) reply xs (Some n, a, x, s, (y, is, b), e) = mark_is reply is
-  body_mark (Aggregate Star) reply xs (None, a, x, s, (is, b), e) = mark_is reply is
-  body_mark (Aggregate mark) reply xs (None, a, x, s, never, e) = absurd never
-
-  -- the elements of an aggregate have an encoding if it has one
-  items_have : (mark : AggregateMark) (list : Vec (Replies A) A) (reply : Replies A)
-      (xs : List ℕ) → shape_of reply ≡ (Aggregate mark, Items list)
-      → Body Shortest elements (Aggregate mark) reply xs → (ys : List ℕ) × elements list.items ys
-  unfolding Led
-  items_have mark list reply xs is (Some n, a, x, s, (l, e, (count, are)), f) =
-      let P : List (Replies A) → Type 0 = λ l. elements l x in
-      (x, subst P (same_in items_in reply e is) are)
-  items_have Star list reply xs is (None, a, x, s, (e, b), f) =
-      absurd (cc (same_in is_nothing reply e is))
-  items_have mark list reply xs is (None, a, x, s, never, f) = absurd never
-
-  pub have_items : (protocol : Protocol) (mark : AggregateMark) (list : Vec (Replies A) A)
-      (reply : Replies A) (xs : List ℕ) → shape_of reply ≡ (Aggregate mark, Items list)
-      → Led (MarkText protocol) (Body Shortest elements) reply xs
-      → (ys : List ℕ) × elements list.items ys
-  unfolding Led
-  have_items protocol mark list reply xs is (m, a, x, s, body, e) =
-      let P : Mark → Type 0 = λ k. Body Shortest elements k reply x in
-      items_have mark list reply x is
-      (subst P (sym (body_mark m reply x body) ∙ mark_is reply is) body)
-
-  -- a reply that has an encoding is of the version
-  pub have_mark : (protocol : Protocol) (reply : Replies A) (xs : List ℕ)
-      → Led (MarkText protocol) (Body Shortest elements) reply xs
-      → IsIn protocol (first_mark reply)
-  unfolding Led MarkText
-  have_mark protocol reply xs (m, a, x, (within, c), body, e) =
-      subst (IsIn protocol) (sym (body_mark m reply x body)) within
-
 module _ {A : Type 0} (elements : Text ℕ (List (Replies A))) (only : IsOnly elements) where
   line_only : (mark : LineMark) → IsOnly (LineSays {A = A} Shortest mark)
   unfolding Shown
@@ -198,7 +155,8 @@ module _ {A : Type 0} (elements : Text ℕ (List (Replies A))) (only : IsOnly el
   unfolding Led MarkText
   reply_only protocol reply xs ys (m, a, x, (within, c), here, e) (n, b, y, (also, d), there, f) =
       let same : m ≡ n =
-      sym (body_mark elements m reply x here) ∙ body_mark elements n reply y there in
+      sym (body_sound elements Shortest m reply x here).0
+      ∙ (body_sound elements Shortest n reply y there).0 in
       let P : Mark → Type 0 = λ k. Body Shortest elements k reply y in
       let one : x ≡ y = body_only m reply x y here (subst P (sym same) there) in
       e ∙ ap (λ l. l ++ x) c ∙ ap (λ k. byte_of k ∷ x) same ∙ ap (λ l. byte_of n ∷ l) one

@@ -10,7 +10,7 @@ use Rattle.grammars.specs.Texts.{EachText, Text}
 use Rattle.format_resp.proofs.Made.{line_mark, mark_is}
 use Rattle.format_resp.specs.Numbers.{IsBigNumber, IsDouble}
 use Rattle.format_resp.specs.Resp.{AggregateBehind, Any, Body, Bytes, Content, DataBehind, Elements}
-use Rattle.format_resp.specs.Resp.{ElementsIn, Ended, Fits, IsIn, IsLineOf, IsVerbatim, Items}
+use Rattle.format_resp.specs.Resp.{ElementsIn, Ended, Fits, Form, IsIn, IsLineOf, IsVerbatim, Items}
 use Rattle.format_resp.specs.Resp.{LineSays, MarkText, Replies, ReplyText, Shown, first_mark}
 use Rattle.format_resp.specs.Resp.{formatted, many, shape_of}
 use Rattle.format_resp.specs.Written.{IsBroken, IsDeeper, IsForeign, IsInvalid, IsOf, IsOrHas}
@@ -32,12 +32,12 @@ use Rattle.format_resp.specs.declared.write.WriteError.TheVariants.{NoParts, Out
 
 module _ {A : Type 0} (elements : Text ℕ (List (Replies A))) where
   -- an aggregate has a size, and its elements have encodings
-  abbrev Built : AggregateMark → Vec (Replies A) A → Type 0
+  abbrev pub Built : AggregateMark → Vec (Replies A) A → Type 0
   Built mark list =
       ((n : ℕ) × (length list.items ≡ many mark n)) × ((xs : List ℕ) × elements list.items xs)
 
   -- what holds for each reply that has an encoding
-  abbrev Sound : Mark × Content A → Type 0
+  abbrev pub Sound : Mark × Content A → Type 0
   Sound (Line mark, Bytes x) = IsLineOf mark x.now
   Sound (Data mark, Bytes x) = Fits (formatted mark) x.now
   Sound (Aggregate mark, Items list) = Built mark list
@@ -51,13 +51,13 @@ module _ {A : Type 0} (elements : Text ℕ (List (Replies A))) where
       → Sound (shape_of reply) → ⊥
   unsound reply is not a = not (subst (λ s. Sound s) is a)
 
-  line_sound : (mark : LineMark) (reply : Replies A) (line : List ℕ) → LineSays Any mark reply line
-      → Sound (shape_of reply)
+  line_sound : (form : Form) (mark : LineMark) (reply : Replies A) (line : List ℕ)
+      → LineSays form mark reply line → Sound (shape_of reply)
   unfolding Shown
-  line_sound Colon reply line (n, is, a) = sound reply is tt
-  line_sound Underscore reply line (is, a) = sound reply is tt
-  line_sound Hash reply line (b, is, a) = sound reply is tt
-  line_sound mark reply line says =
+  line_sound form Colon reply line (n, is, a) = sound reply is tt
+  line_sound form Underscore reply line (is, a) = sound reply is tt
+  line_sound form Hash reply line (b, is, a) = sound reply is tt
+  line_sound form mark reply line says =
       let (x, is, (a, s)) = says in sound reply is (subst (IsLineOf mark) (sym s) a)
 
   bytes_sound : (mark : DataMark) (size : Option ℕ) (reply : Replies A) (tokens : List ℕ)
@@ -76,15 +76,25 @@ module _ {A : Type 0} (elements : Text ℕ (List (Replies A))) where
   aggregate_sound Star None reply tokens (is, a) = (mark_is reply is, sound reply is tt)
   aggregate_sound mark None reply tokens never = absurd never
 
-  body_sound : (mark : Mark) (reply : Replies A) (tokens : List ℕ)
-      → Body Any elements mark reply tokens
+  pub body_sound : (form : Form) (mark : Mark) (reply : Replies A) (tokens : List ℕ)
+      → Body form elements mark reply tokens
       → (first_mark reply ≡ mark) × Sound (shape_of reply)
   unfolding Ended Led
-  body_sound (Line mark) reply tokens (line, says, e) =
-      (line_mark Any mark reply line says, line_sound mark reply line says)
-  body_sound (Data mark) reply tokens (size, xs, ys, s, a, e) = bytes_sound mark size reply ys a
-  body_sound (Aggregate mark) reply tokens (size, xs, ys, s, a, e) =
+  body_sound form (Line mark) reply tokens (line, says, e) =
+      (line_mark form mark reply line says, line_sound form mark reply line says)
+  body_sound form (Data mark) reply tokens (size, xs, ys, s, a, e) =
+      bytes_sound mark size reply ys a
+  body_sound form (Aggregate mark) reply tokens (size, xs, ys, s, a, e) =
       aggregate_sound mark size reply ys a
+
+  -- a reply that has an encoding is of the version
+  pub led_sound : (form : Form) (protocol : Protocol) (reply : Replies A) (tokens : List ℕ)
+      → Led (MarkText protocol) (Body form elements) reply tokens
+      → IsIn protocol (first_mark reply) × Sound (shape_of reply)
+  unfolding Led MarkText
+  led_sound form protocol reply tokens (mark, xs, ys, (within, m), a, e) =
+      let (is, holds) = body_sound form mark reply ys a in
+      (subst (IsIn protocol) (sym is) within, holds)
 
   broken : (reply : Replies A) → IsBroken reply → Sound (shape_of reply) → ⊥
   broken reply (inl (text, is, not)) = unsound reply is not
@@ -102,9 +112,8 @@ module _ {A : Type 0} (protocol : Protocol) where
 
   text_sound : (level : ℕ) (reply : Replies A) → HasText level reply
       → Sound (Elements protocol level) (shape_of reply)
-  unfolding Led
-  text_sound level reply (tokens, (mark, xs, ys, m, a, e)) =
-      (body_sound (Elements protocol level) mark reply ys a).1
+  text_sound level reply (tokens, text) =
+      (led_sound (Elements protocol level) Any protocol reply tokens text).1
 
   row_has : (level : ℕ) (replies : List (Replies A)) (tokens : List ℕ)
       → EachText (ReplyText protocol level) replies tokens → All (HasText level) replies
@@ -167,10 +176,8 @@ module _ {A : Type 0} (protocol : Protocol) where
       none level reply is (text_sound level reply text))
 
   foreign : (reply : Replies A) → IsForeign protocol reply → (level : ℕ) → HasText level reply → ⊥
-  unfolding Led MarkText
-  foreign reply not level (tokens, (mark, xs, ys, (within, m), a, e)) =
-      not (subst (IsIn protocol) (sym (body_sound (Elements protocol level) mark reply ys a).0)
-      within)
+  foreign reply not level (tokens, text) =
+      not (led_sound (Elements protocol level) Any protocol reply tokens text).0
 
   -- a reply with an error other than out of memory has no encoding, or one of a greater depth
   pub refused_textless : (level above : ℕ) (reply : Replies A) (e : WriteError) (tokens : List ℕ)

@@ -11,7 +11,9 @@ use Rattle.std.proofs.lemmas.List.{drop_more, length-append}
 use Rattle.std.proofs.lemmas.Result.{IfErr-weaker}
 use Rattle.grammars.specs.Texts.{EachText, Text}
 use Rattle.format_resp.proofs.Made.{gathered_is}
-use Rattle.format_resp.proofs.OnlyTexts.{IsOnly, have_items, have_mark, written_only}
+use Rattle.format_resp.proofs.OnlyTexts.{IsOnly, written_only}
+use Rattle.format_resp.proofs.Refusals.{Sound, led_sound}
+use Rattle.format_resp.proofs.Writing.{one_more}
 use Rattle.format_resp.proofs.WrittenTexts.{Encodes, aggregate_text}
 use Rattle.format_resp.specs.Resp.{ElementsIn, Replies}
 use Rattle.format_resp.specs.Resp.{Shortest}
@@ -97,10 +99,6 @@ module _ {O B T : Type 0} (text : Text ℕ O) (o : O) (into : Vec ℕ B) (result
         if_err text o into (Ok x) full = tt
         if_err text o into (Err e) full = λ is. full
 
-one_more : {O : Type 0} (os : List O) (k : ℕ) (o : O) → k < length os → o ≡ slice_index_or os k o
-    → drop k os ≡ o ∷ drop (k + 1) os
-one_more os k o below is = drop_more os k o below ∙ ap (λ p. p ∷ drop (k + 1) os) (sym is)
-
 module _ {O B : Type 0} (text : Text ℕ O) (os : List O) (k : ℕ) (o : O) (below : k < length os)
     (is : o ≡ slice_index_or os k o) where
   -- of an element, which others follow
@@ -127,7 +125,8 @@ pub text_full : {A B : Type 0} (protocol : Protocol) (level : ℕ) (reply : Repl
     → LacksFor (WrittenText protocol level) reply into
 text_full protocol level reply into xs text full tokens is =
     subst (λ l. LacksRoom into l) (written_only protocol level reply xs tokens
-    (text (have_mark (ElementsIn Shortest protocol level) protocol reply tokens is)) is) full
+    (text (led_sound (ElementsIn Shortest protocol level) Shortest protocol reply tokens is).0) is)
+    full
 
 -- why writing a reply with this encoding is out of memory
 module _ {A B T : Type 0} (protocol : Protocol) (level : ℕ) (reply : Replies A) (into : Vec ℕ B)
@@ -160,7 +159,8 @@ aggregate_full {A} protocol mark size below {level} list into count is first ful
     let shape = gathered_is mark list refl in
     let same : suc below ≡ level = omega (arith, is) in
     subst (λ l. LacksFor (WrittenText protocol l) reply into) same (λ tokens text.
-    let (ys, are) = have_items elements protocol mark list reply tokens shape text in
+    let (sizes, (ys, are)) = subst (λ s. Sound elements s) shape
+    (led_sound elements Shortest protocol reply tokens text).1 in
     text_full protocol (suc below) reply into
     (marked (byte_of (Aggregate mark)) (decimal size) ++ ys)
     (aggregate_text protocol (suc below) reply mark size list ys shape count are)

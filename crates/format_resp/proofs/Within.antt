@@ -8,7 +8,7 @@ use Rattle.std.proofs.lemmas.List.{append-nil}
 use Rattle.winnow_grammar.specs.InTurn.{First}
 use Rattle.grammars.specs.Texts.{Text}
 use Rattle.format_resp.proofs.AfterLines.{Behind, Inner, head_back, head_there}
-use Rattle.format_resp.proofs.Dues.{Within, at_more, at_one, first_more}
+use Rattle.format_resp.proofs.Dues.{Within, at_more, at_one, first_more, times_add}
 use Rattle.format_resp.proofs.FirstLines.{begun_none, head_splits}
 use Rattle.format_resp.proofs.Strings.{part_none}
 use Rattle.format_resp.specs.Bounded.{AreAfter, IsPassed, IsPassedEach, IsRejectedHere}
@@ -33,12 +33,8 @@ module _ (protocol : Protocol) where
       → AreAfter protocol level k tokens between → Within protocol level between rest
       → AreAfter protocol level (k + 1) tokens rest
   unfolding Times
-  after_more level zero tokens between rest e found =
-      (rest, subst (λ l. Within protocol level l rest) (sym e) found, refl)
-  after_more level (suc k) tokens between rest (mid, one, after) found =
-      let P : ℕ → Type 0 = λ n. AreAfter protocol level n tokens rest in
-      let same : suc (k + 1) ≡ suc k + 1 = omega arith in
-      subst P same (mid, one, after_more level k mid between rest after found)
+  after_more level k tokens between rest after found =
+      times_add (Within protocol level) k 1 tokens between rest after (rest, found, refl)
 
   -- ---- the results
 

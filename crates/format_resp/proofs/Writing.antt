@@ -49,6 +49,10 @@ pub adds : {O : Type 0} {text : Text ℕ O} {o : O} {before after : List ℕ} (t
     → text o tokens → after ≡ before ++ tokens → Adds text o before after
 adds tokens is e = record { tokens = tokens; is = is; behind = e }
 
+pub one_more : {O : Type 0} (os : List O) (k : ℕ) (o : O) → k < length os
+    → o ≡ slice_index_or os k o → drop k os ≡ o ∷ drop (k + 1) os
+one_more os k o below is = drop_more os k o below ∙ ap (λ p. p ∷ drop (k + 1) os) (sym is)
+
 -- one more element
 pub row_more : {O : Type 0} {text : Text ℕ O} (os : List O) (k : ℕ) (o : O)
     {before between after : List ℕ} → k < length os → o ≡ slice_index_or os k o
@@ -57,9 +61,7 @@ pub row_more : {O : Type 0} {text : Text ℕ O} (os : List O) (k : ℕ) (o : O)
 unfolding EachText
 row_more {O} {text} os k o {before} {between} {after} below is one more =
     let P : List O → Type 0 = λ l. Adds (EachText text) l before after in
-    let here : drop k os ≡ o ∷ drop (k + 1) os =
-    drop_more os k o below ∙ ap (λ y. y ∷ drop (k + 1) os) (sym is) in
-    subst P (sym here) (record {
+    subst P (sym (one_more os k o below is)) (record {
       tokens = one.tokens ++ more.tokens;
       is = (one.tokens, more.tokens, one.is, more.is, refl);
       behind = put_two before one.tokens more.tokens one.behind more.behind;
@@ -125,20 +127,9 @@ aggregate_put {A} protocol mark size below {level} list {before = before} {after
     let shape = gathered_is mark list refl in
     subst P (sym f) (adds (head ++ added.tokens)
     (aggregate_text protocol (suc below) (gathered mark list) mark size list added.tokens shape
-    count (subst Q same added.is) (subst (IsIn protocol) (sym (mark_is _ shape)) within)) (put_two before head added.tokens
-    (e ∙ ap (λ b. before ++ marked b (decimal size)) first) added.behind))
-
--- what was appended for an aggregate of the version, for the reply that is this aggregate
-pub list_put : {A T : Type 0} (protocol : Protocol) (level : ℕ) (mark : AggregateMark)
-    {reply : Replies A} (list : Vec (Replies A) A) (before after : List ℕ)
-    → reply ≡ gathered mark list → IsIn protocol (first_mark reply) → (result : Result T WriteError)
-    → OnOk result (IsIn protocol (Aggregate mark)
-    → Adds (WrittenText protocol level) (gathered mark list) before after)
-    → OnOk result (Adds (WrittenText protocol level) reply before after)
-list_put protocol level mark {reply} list before after is within result =
-    on_ok_weaker result (λ told.
-    subst (λ r. Adds (WrittenText protocol level) r before after) (sym is)
-    (told (subst (IsIn protocol) (mark_is reply (gathered_is mark list is)) within)))
+    count (subst Q same added.is) (subst (IsIn protocol) (sym (mark_is _ shape)) within))
+    (put_two before head added.tokens (e ∙ ap (λ b. before ++ marked b (decimal size)) first)
+    added.behind))
 
 pub adds_text : {A : Type 0} (protocol : Protocol) (level : ℕ) {reply : Replies A}
     {before after : List ℕ}

@@ -1,7 +1,8 @@
 use Rattle.std.specs.Prelude.{◌-◌, ⊤, ℕ, List, length}
 use Rattle.std.proofs.Common.{ap, arith, refl, subst}
 use Rattle.std.proofs.lemmas.List.{nil_from_length}
-use Rattle.format_resp.proofs.NodeTexts.{ended_data, ended_line, ended_list, line_at, line_found}
+use Rattle.format_resp.proofs.FirstLines.{line_at}
+use Rattle.format_resp.proofs.NodeTexts.{ended_data, ended_line, ended_list, line_found}
 use Rattle.format_resp.proofs.NodeTexts.{mark_found, no_bytes, no_mark}
 use Rattle.format_resp.specs.Resp.{Any, LineSays, Replies}
 use Rattle.format_resp.specs.Writing.{IsLineNode}

@@ -12,7 +12,7 @@ use Rattle.format_resp.proofs.OnlyTexts.{written_only}
 use Rattle.format_resp.proofs.Rooms.{aggregate_full, full_err, lacks_behind, lacks_first}
 use Rattle.format_resp.proofs.Rooms.{row_behind, row_first, text_err, valid_full}
 use Rattle.format_resp.proofs.Writing.{adds, aggregate_put, among, as_error, deep_aggregate}
-use Rattle.format_resp.proofs.Writing.{if_error, keeps_trans, list_put, or_itself, refused_count}
+use Rattle.format_resp.proofs.Writing.{if_error, keeps_trans, or_itself, refused_count}
 use Rattle.format_resp.proofs.Writing.{refused_foreign, refused_within, row_end, row_more}
 use Rattle.format_resp.proofs.Writing.{valid_put}
 use Rattle.format_resp.proofs.WrittenTexts.{data_text, integer_text, line_text, null_array_text}
@@ -20,8 +20,6 @@ use Rattle.format_resp.proofs.WrittenTexts.{null_bulk_text}
 use Rattle.format_resp.specs.Numbers.{IsBigNumber, IsDouble}
 use Rattle.format_resp.specs.Resp.{InLine, WrittenText, gathered}
 use Rattle.format_resp.specs.Written.{IsBroken, marked}
-use Rattle.format_resp.specs.declared.marks.AggregateMark.TheVariants.{Bar, Greater, Percent, Star}
-use Rattle.format_resp.specs.declared.marks.AggregateMark.TheVariants.{Tilde}
 use Rattle.format_resp.specs.declared.marks.DataMark.TheVariants.{Dollar, Equals, Exclamation}
 use Rattle.format_resp.specs.declared.marks.LineMark.TheVariants.{Comma, Hash, Minus}
 use Rattle.format_resp.specs.declared.marks.LineMark.TheVariants.{Parenthesis, Plus, Underscore}
@@ -218,32 +216,6 @@ write_nested-returns-in-Verbatim-clause-refused g t c =
     as_error c.args.protocol c.args.level _ Format
     (λ not. or_itself _ _ (_, shaped c.in-Verbatim.is (verbatim_is _), not))
     c.write_verbatim.result c.write_verbatim.ensures.refused
-
-pub write_nested-returns-in-Array-clause-written : goal.write_nested-returns-in-Array-clause-written
-write_nested-returns-in-Array-clause-written g t c =
-    list_put c.args.protocol c.args.level Star _ _ _ c.in-Array.is c.if-is_foreign.ensures
-    c.write_list.result c.write_list.ensures.written
-
-pub write_nested-returns-in-Map-clause-written : goal.write_nested-returns-in-Map-clause-written
-write_nested-returns-in-Map-clause-written g t c =
-    list_put c.args.protocol c.args.level Percent _ _ _ c.in-Map.is c.if-is_foreign.ensures
-    c.write_list-in-Map.result c.write_list-in-Map.ensures.written
-
-pub write_nested-returns-in-Set-clause-written : goal.write_nested-returns-in-Set-clause-written
-write_nested-returns-in-Set-clause-written g t c =
-    list_put c.args.protocol c.args.level Tilde _ _ _ c.in-Set.is c.if-is_foreign.ensures
-    c.write_list-in-Set.result c.write_list-in-Set.ensures.written
-
-pub write_nested-returns-in-Push-clause-written : goal.write_nested-returns-in-Push-clause-written
-write_nested-returns-in-Push-clause-written g t c =
-    list_put c.args.protocol c.args.level Greater _ _ _ c.in-Push.is c.if-is_foreign.ensures
-    c.write_list-in-Push.result c.write_list-in-Push.ensures.written
-
-pub write_nested-returns-in-Attributed-clause-written :
-    goal.write_nested-returns-in-Attributed-clause-written
-write_nested-returns-in-Attributed-clause-written g t c =
-    list_put c.args.protocol c.args.level Bar _ _ _ c.in-Attributed.is c.if-is_foreign.ensures
-    c.write_list-in-Attributed.result c.write_list-in-Attributed.ensures.written
 
 pub write_nested-returns-in_ok-write_integer-in-Integer-clause-written :
     goal.write_nested-returns-in_ok-write_integer-in-Integer-clause-written
