@@ -25,14 +25,6 @@ fn allocators_come_first(rt: HostRuntime) {
 }
 
 #[test]
-fn ranges_print_their_fields(rt: HostRuntime) {
-    match format!(in rt.alloc(); "{:?}", Range::from(1..=3)) {
-        Ok(text) => assert_eq!(rt; text.as_str(), "Range { start_inclusive: 1, end_inclusive: Some(3) }"),
-        Err(_) => assert!(rt; false, "no memory"),
-    }
-}
-
-#[test]
 fn inputs_are_copied(rt: HostRuntime) {
     let mut input = "ab";
     let kept = input;

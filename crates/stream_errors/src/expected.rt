@@ -25,7 +25,7 @@ use streams::stream::Stream;
 /// last one. winnow has no such type.
 ///
 /// The first context of an error is the expected item, each later one an outer context. `alt`
-/// returns the error of its last branch; a choice that is written by hand can join those of all.
+/// joins the errors of its branches.
 ///
 /// ```
 /// let mut error = ExpectedError::new();

@@ -91,6 +91,7 @@ impl<I: Stream, E: ParserError<I>> ParserError<I> for ErrMode<E> {
         ErrMode::Backtrack(E::no_memory(input))
     }
 
+    #[inline]
     fn or(self, other: ErrMode<E>) -> ErrMode<E> {
         match self {
             ErrMode::Backtrack(first) => match other {
@@ -129,11 +130,11 @@ impl<I: Stream, E: ParserError<I>> ParserError<I> for ErrMode<E> {
         }
     }
 
+    #[inline]
     fn append(self, input: &I, token_start: &I::Checkpoint) -> ErrMode<E> {
         match self {
             ErrMode::Backtrack(error) => ErrMode::Backtrack(error.append(input, token_start)),
-            ErrMode::Cut(error) => ErrMode::Cut(error.append(input, token_start)),
-            ErrMode::Incomplete(needed) => ErrMode::Incomplete(needed),
+            other => other,
         }
     }
 

@@ -2,7 +2,8 @@
 ghost use Rattle.std.specs.Prelude.{◌≡◌, ◌≤◌, ◌-◌, Some, None};
 ghost use Rattle.std.specs.Range.{range_inclusive_start, range_inclusive_end};
 
-use std::ops;
+use std::fmt::{Debug, Display};
+use std::{fmt, ops};
 
 /// A range of counts, made by `From` of a number or of a range of numbers.
 ///
@@ -12,8 +13,9 @@ use std::ops;
 /// assert_eq!(rt; Range::from(2..=4), Range::from(2..5));
 /// ```
 ///
-/// Of `a..b` and `..b` the greatest count is `b - 1`, and 0 where `b` is 0.
-#[derive(Clone, Copy, Debug, PartialEq, Eq)]
+/// Of `a..b` and `..b` the greatest count is `b - 1`, and 0 where `b` is 0. It prints as `2..=4`,
+/// as `1..` without a greatest count, and as `3` if both are equal.
+#[derive(Clone, Copy, PartialEq, Eq)]
 pub struct Range {
     /// The least count.
     pub start_inclusive: usize,
@@ -139,5 +141,27 @@ impl From<ops::RangeInclusive<usize>> for Range {
             start_inclusive: start,
             end_inclusive: Some(end),
         }
+    }
+}
+
+impl Display for Range {
+    fn fmt<W: fmt::Write>(&self, f: &mut fmt::Formatter<W>) -> fmt::Result {
+        Display::fmt(&self.start_inclusive, f)?;
+        match self.end_inclusive {
+            None => f.write_str(".."),
+            Some(last) => {
+                if last == self.start_inclusive {
+                    return Ok(());
+                }
+                f.write_str("..=")?;
+                Display::fmt(&last, f)
+            }
+        }
+    }
+}
+
+impl Debug for Range {
+    fn fmt<W: fmt::Write>(&self, f: &mut fmt::Formatter<W>) -> fmt::Result {
+        Display::fmt(self, f)
     }
 }
