@@ -54,11 +54,13 @@ def choice_impl(n):
         lines.append("        let start = input.checkpoint();")
     for k in upto(n - 1):
         lines += [
-            "        if let Some(answer) = attempt(&mut self.%d, input, &start) {" % (k - 1),
-            "            return answer;",
-            "        }",
+            "        let failed = match attempt(&mut self.%d, input, &start, %s) {" % (k - 1, "None" if k == 1 else "failed"),
+            "            Ok(answer) => return answer,",
+            "            Err(failed) => failed,",
+            "        };",
         ]
-    lines += ["        self.%d.parse_next(input)" % (n - 1), "    }", "}"]
+    last = "self.0.parse_next(input)" if n == 1 else "attempt_last(&mut self.%d, input, &start, failed)" % (n - 1)
+    lines += ["        " + last, "    }", "}"]
     return "\n".join(lines)
 
 
@@ -69,7 +71,7 @@ ghost use Rattle.parser_definitions.specs.Alt.{{AltDoes}};
 ghost use Rattle.parser_definitions.specs.Projects.Choices.{{alt_meets, alt_terms}};
 
 {mods}
-use crate::combinator::impls::alt::{{Alt, attempt}};
+use crate::combinator::impls::alt::{{Alt, attempt, attempt_last}};
 use stream_errors::parser_error::ParserError;
 use streams::stream::Stream;
 use winnow_core::parser::Parser;

@@ -237,17 +237,16 @@ pub use Rattle.winnow_numbers.specs.Numeral
 pub use Rattle.winnow_comb.specs.Alt
 pub use Rattle.winnow_comb.specs.Terminated
 -- Repetition of a parser: into an accumulator or a value, until another parser succeeds, as an
--- iterator, or into a buffer.
+-- iterator, or into a buffer or a slice.
 pub use Rattle.winnow_repeat.specs.Fill
 pub use Rattle.winnow_repeat.specs.Fold
+pub use Rattle.winnow_repeat.specs.IntoSlice
 pub use Rattle.winnow_repeat.specs.Iterator
 pub use Rattle.winnow_repeat.specs.Repeat
 pub use Rattle.winnow_repeat.specs.RepeatLaws
 pub use Rattle.winnow_repeat.specs.TryFold
 pub use Rattle.winnow_repeat.specs.Turns
 pub use Rattle.winnow_repeat.specs.VerifyFold
--- Repetition into a slice of the caller, without allocating.
-pub use Rattle.winnow_slices.specs.IntoSlice
 -- Elements with separators between them, collected in an accumulator or joined to the left or the
 -- right.
 pub use Rattle.winnow_separated.specs.FoldLaws

@@ -14,6 +14,7 @@ pub use winnow_core::combinator::eof;
 pub use winnow_expression::combinator::{
     Binding, FoldBinary, FoldUnary, Infix, NoFold, Postfix, Prefix, expression,
 };
-pub use winnow_repeat::combinator::{ParserIterator, fill, iterator, repeat, repeat_till};
+pub use winnow_repeat::combinator::{
+    ParserIterator, TooMany, fill, iterator, repeat, repeat_into_slice, repeat_till,
+};
 pub use winnow_separated::combinator::{separated, separated_foldl1, separated_foldr1};
-pub use winnow_slices::combinator::{TooMany, repeat_into_slice};

@@ -2,6 +2,7 @@
 pub mod Called
 pub mod Fill
 pub mod Fold
+pub mod IntoSlice
 pub mod Iterator
 pub mod Loops
 pub mod Repeat

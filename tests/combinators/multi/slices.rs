@@ -15,7 +15,7 @@ use test_support::rows::{Modal, same};
 use test_support::texts::{OfText, whole};
 use winnow_comb::combinator;
 use winnow_core::parser::Parser;
-use winnow_slices::combinator::TooMany;
+use winnow_repeat::combinator::TooMany;
 use winnow_token::token::impls::Any;
 
 /// Checks that a call replaces the old elements with `new`, and the result and the remaining units
@@ -34,7 +34,7 @@ where
     E: ParserError<I> + FromExternalError<I, TooMany>,
     P: Parser<I, O, E> + Drop,
 {
-    let answer: Result<usize, E> = winnow_slices::combinator::repeat_into_slice(
+    let answer: Result<usize, E> = winnow_repeat::combinator::repeat_into_slice(
         &mut input, &mut parser, &mut slice,
     );
     let answer = answer_of::<I, usize, E>(answer);

@@ -10,6 +10,7 @@ ghost use Rattle.winnow_repeat.specs.Fold.{FoldsItems};
 
 use crate::combinator::items::is_descending;
 use stream_errors::has_kind::HasKind;
+use stream_errors::joining::append_position;
 use stream_errors::parser_error::ParserError;
 use stream_sets::range::Range;
 use streams::stream::Stream;
@@ -138,7 +139,7 @@ pub fn fold_items<
                     input.reset(&start);
                     return Ok(value);
                 }
-                return Err(error);
+                return Err(append_position(error, input, &start));
             }
         }
     }

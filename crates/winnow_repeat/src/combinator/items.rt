@@ -10,6 +10,7 @@ ghost use Rattle.stream_errors.specs.Form.{answer_by};
 ghost use Rattle.stream_sets.specs.Range.{IsWithin, from_to};
 
 use std::alloc::Allocator;
+use stream_errors::joining::append_position;
 use stream_errors::parser_error::ParserError;
 use stream_sets::accumulate::Accumulate;
 use streams::stream::Stream;
@@ -23,6 +24,25 @@ pub fn is_descending(least: usize, greatest: Option<usize>) -> bool
     match greatest {
         Some(most) => most < least,
         None => false,
+    }
+}
+
+/// Runs a parser. Where it backtracks, `start` is added to its error, as winnow does for items that
+/// a repetition needs.
+#[inline(always)]
+pub(crate) fn parse_item<P: Parser<I, O, E>, I: Stream, O, E: ParserError<I>>(
+    parser: &mut P,
+    input: &mut I,
+    start: &I::Checkpoint,
+) -> Result<O, E>
+    requires { P.can_parse parser.old }
+    ensures again { P.can_parse parser.new }
+    ensures ran { Ran I.reading P.does E.form (P.state parser.old) (I.view input.old)
+        (answer_by E.kind result) (P.state parser.new) (I.view input.new) }
+{
+    match parser.parse_next(input) {
+        Ok(output) => Ok(output),
+        Err(error) => Err(append_position(error, input, start)),
     }
 }
 
@@ -91,7 +111,7 @@ pub fn repeat_items<
                     input.reset(&start);
                     return Ok(all);
                 }
-                return Err(error);
+                return Err(append_position(error, input, &start));
             }
         }
     }

@@ -1,5 +1,5 @@
 //! Choices: their branches, and their parser.
-ghost use Rattle.std.specs.Prelude.{⊤, ◌≡◌, Err, MatchOption};
+ghost use Rattle.std.specs.Prelude.{⊤, ◌≡◌, Err, MatchResult};
 ghost use Rattle.stream_errors.specs.Form.{answer_by};
 ghost use Rattle.streams.specs.Input.{Input, IsEndOf, back_at};
 ghost use Rattle.streams.specs.Kind.{backtrack};
@@ -11,6 +11,7 @@ mod slices;
 mod tuples;
 
 use std::marker::PhantomData;
+use stream_errors::joining::{append_position, join_branches};
 use stream_errors::parser_error::ParserError;
 use streams::stream::Stream;
 use winnow_core::parser::Parser;
@@ -83,35 +84,70 @@ impl<A: Alt<I, O, E>, I: Stream, O, E: ParserError<I>> Parser<I, O, E> for AltPa
     }
 }
 
-/// Runs a branch that is not the last and returns its result, or `None` if it backtracks; then the
-/// input is reset to `start`, its current position.
+/// Runs a branch that is not the last. Returns its result; or, if it backtracks, the joined errors
+/// of the branches so far, and then the input is reset to `start`, its current position.
 #[inline(always)]
 pub(crate) fn attempt<I: Stream, O, E: ParserError<I>, P: Parser<I, O, E>>(
     branch: &mut P,
     input: &mut I,
     start: &I::Checkpoint,
-) -> Option<Result<O, E>>
+    failed: Option<E>,
+) -> Result<Result<O, E>, Option<E>>
     requires callable { P.can_parse branch.old }
     requires starts { I.seen start.now ≡ (I.view input.old).left }
     ensures again { P.can_parse branch.new }
-    ensures ran { MatchOption result
-        ((end : Input I.Seen) × Ran I.reading P.does E.form (P.state branch.old)
-        (I.view input.old) (Err backtrack) (P.state branch.new) end
-        × (I.view input.new ≡ back_at (I.seen start.now) end))
+    ensures ran { MatchResult result
         (λ answer. Ran I.reading P.does E.form (P.state branch.old) (I.view input.old)
         (answer_by E.kind answer) (P.state branch.new) (I.view input.new)
-        × (answer_by E.kind answer ≡ Err backtrack → ⊥)) }
+        × (answer_by E.kind answer ≡ Err backtrack → ⊥))
+        (λ _. (end : Input I.Seen) × Ran I.reading P.does E.form (P.state branch.old)
+        (I.view input.old) (Err backtrack) (P.state branch.new) end
+        × (I.view input.new ≡ back_at (I.seen start.now) end)) }
     ensures ends { IsEndOf I.reading (I.view input.new) (I.view input.old) }
 {
     match branch.parse_next(input) {
-        Ok(output) => Some(Ok(output)),
+        Ok(output) => Ok(Ok(output)),
         Err(error) => {
             if error.is_backtrack() {
                 input.reset(start);
-                None
+                Err(Some(join_failed(failed, error, input)))
             } else {
-                Some(Err(error))
+                Ok(Err(error))
             }
         }
+    }
+}
+
+/// Runs the last branch. If it backtracks, the error is that of all branches, with the position of
+/// the choice.
+#[inline(always)]
+pub(crate) fn attempt_last<I: Stream, O, E: ParserError<I>, P: Parser<I, O, E>>(
+    branch: &mut P,
+    input: &mut I,
+    start: &I::Checkpoint,
+    failed: Option<E>,
+) -> Result<O, E>
+    requires { P.can_parse branch.old }
+    ensures again { P.can_parse branch.new }
+    ensures ran { Ran I.reading P.does E.form (P.state branch.old) (I.view input.old)
+        (answer_by E.kind result) (P.state branch.new) (I.view input.new) }
+{
+    match branch.parse_next(input) {
+        Ok(output) => Ok(output),
+        Err(error) => {
+            let joined = join_failed(failed, error, input);
+            Err(append_position(joined, input, start))
+        }
+    }
+}
+
+/// Joins an error that backtracks to those of earlier branches. Another error is unchanged.
+#[inline(always)]
+fn join_failed<I: Stream, E: ParserError<I>>(failed: Option<E>, error: E, input: &I) -> E
+    ensures { E.kind result ≡ E.kind error }
+{
+    match failed {
+        Some(failed) if error.is_backtrack() => join_branches(failed, error, input),
+        _ => error,
     }
 }

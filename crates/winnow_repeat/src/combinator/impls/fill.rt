@@ -6,6 +6,7 @@ ghost use Rattle.parser_definitions.specs.Terms.{no_claim, nothing_claimed};
 ghost use Rattle.std.specs.Prelude.{◌≡◌, ℕ};
 ghost use Rattle.parser_definitions.specs.Fill.{Buffer, FillDoes, fill_law};
 
+use crate::combinator::items::parse_item;
 use std::marker::PhantomData;
 use stream_errors::parser_error::ParserError;
 use streams::stream::Stream;
@@ -65,7 +66,8 @@ fn fill_each<P: Parser<I, O, E>, I: Stream, O: Drop, E: ParserError<I>>(
         (P.state parser.new, buffer_of name buffer.new) (I.view input.new) }
 {
     for k in 0..buffer.len() {
-        match parser.parse_next(input) {
+        let start = input.checkpoint();
+        match parse_item(parser, input, &start) {
             Ok(output) => buffer[k] = output,
             Err(error) => return Err(error),
         }

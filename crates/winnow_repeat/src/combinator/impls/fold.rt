@@ -17,6 +17,7 @@ ghost use Rattle.parser_definitions.specs.Folding.{Built};
 ghost use Rattle.parser_definitions.specs.Projects.Gathers.{fold_projects};
 
 use crate::combinator::folding::{Folding, fold_items, fold_range};
+use crate::combinator::items::parse_item;
 use std::marker::PhantomData;
 use stream_errors::parser_error::ParserError;
 use stream_sets::range::Range;
@@ -182,7 +183,8 @@ fn fold_one<
         (answer_by E.kind result) (P.state parser.new, (range, (init.new, op.new.closure)))
         (I.view input.new) }
 {
-    let first = parser.parse_next(input)?;
+    let start = input.checkpoint();
+    let first = parse_item(parser, input, &start)?;
     let value = init();
     let value = (op.closure)(value, first);
     fold_items(value, 0, None, parser, op, input)

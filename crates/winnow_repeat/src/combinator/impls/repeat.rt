@@ -17,7 +17,7 @@ ghost use Rattle.parser_definitions.specs.Repeat.{OneOrMore, RepeatDoes, repeat_
 ghost use Rattle.parser_definitions.specs.Then.Steps.{instead, same};
 
 use crate::combinator::impls::{RepeatFold, RepeatTryFold, RepeatVerifyFold};
-use crate::combinator::items::{repeat_items, repeat_many};
+use crate::combinator::items::{parse_item, repeat_items, repeat_many};
 use std::alloc::Allocator;
 use std::marker::PhantomData;
 use stream_errors::external::FromExternalError;
@@ -194,7 +194,8 @@ fn repeat_one<
         (P.state parser.old) (I.view input.old) (answer_by E.kind result) (P.state parser.new)
         (I.view input.new) }
 {
-    let first = parser.parse_next(input)?;
+    let start = input.checkpoint();
+    let first = parse_item(parser, input, &start)?;
     let mut all = match C::initial(alloc, None) {
         Ok(all) => all,
         Err(_) => return Err(E::no_memory(input)),

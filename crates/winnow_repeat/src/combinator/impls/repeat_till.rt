@@ -16,7 +16,7 @@ ghost use Rattle.parser_definitions.specs.RepeatTill.{repeat_till_law};
 ghost use Rattle.parser_definitions.specs.Then.Steps.{instead, same};
 ghost use Rattle.parser_definitions.specs.Threes.{one_of, two_of, with_one, with_two};
 
-use crate::combinator::items::is_descending;
+use crate::combinator::items::{is_descending, parse_item};
 use std::alloc::Allocator;
 use std::marker::PhantomData;
 use stream_errors::parser_error::ParserError;
@@ -125,8 +125,9 @@ fn least_items<
 {
     let mut all = empty;
     let mut missing = least;
+    let start = input.checkpoint();
     'items: while missing > 0 {
-        let output = parser.parse_next(input)?;
+        let output = parse_item(parser, input, &start)?;
         match all.accumulate(output) {
             Ok(()) => missing -= 1,
             Err(_) => return Err(E::no_memory(input)),
@@ -176,7 +177,7 @@ fn turns<
             }
         }
         input.reset(&start);
-        let output = parser.parse_next(input)?;
+        let output = parse_item(parser, input, &start)?;
         if input.eof_offset() == left {
             return Err(E::assert(input, "each item must consume"));
         }

@@ -16,6 +16,7 @@ ghost use Rattle.winnow_separated.specs.Separated.{OnlyElements};
 use crate::combinator::impls::link::Link;
 use std::alloc::Allocator;
 use std::marker::PhantomData;
+use stream_errors::joining::append_position;
 use stream_errors::parser_error::ParserError;
 use stream_sets::accumulate::Accumulate;
 use stream_sets::range::Range;
@@ -149,7 +150,7 @@ fn separated_elements<
                 input.reset(&start);
                 return Ok(all);
             }
-            Err(error)
+            Err(append_position(error, input, &start))
         }
     }
 }
@@ -197,7 +198,7 @@ fn separated_links<
                     input.reset(&start);
                     return Ok(all);
                 }
-                return Err(error);
+                return Err(append_position(error, input, &start));
             }
         }
     }

@@ -9,7 +9,7 @@ ghost use Rattle.std.specs.List.{All};
 ghost use Rattle.std.specs.Prelude.{◌≡◌, List, map, ℕ, []};
 ghost use Rattle.stream_errors.specs.Form.{answer_by};
 
-use crate::combinator::impls::alt::{Alt, attempt};
+use crate::combinator::impls::alt::{Alt, attempt, attempt_last};
 use stream_errors::parser_error::ParserError;
 use streams::stream::Stream;
 use winnow_core::parser::Parser;
@@ -101,10 +101,12 @@ fn choose<I: Stream, O, E: ParserError<I>, P: Parser<I, O, E>>(
     }
     let start = input.checkpoint();
     let last = branches.len() - 1;
+    let mut failed = None;
     for k in 0..last {
-        if let Some(answer) = attempt(&mut branches[k], input, &start) {
-            return answer;
-        }
+        failed = match attempt(&mut branches[k], input, &start, failed) {
+            Ok(answer) => return answer,
+            Err(failed) => failed,
+        };
     }
-    branches[last].parse_next(input)
+    attempt_last(&mut branches[last], input, &start, failed)
 }

@@ -6,7 +6,7 @@ ghost use Rattle.parser_definitions.specs.Projects.Choices.{alt_meets, alt_terms
 
 mod long;
 
-use crate::combinator::impls::alt::{Alt, attempt};
+use crate::combinator::impls::alt::{Alt, attempt, attempt_last};
 use stream_errors::parser_error::ParserError;
 use streams::stream::Stream;
 use winnow_core::parser::Parser;
@@ -47,10 +47,11 @@ impl<I: Stream, O, E: ParserError<I>, P1: Parser<I, O, E>, P2: Parser<I, O, E>> 
     #[inline(always)]
     fn choice(&mut self, input: &mut I) -> Result<O, E> {
         let start = input.checkpoint();
-        if let Some(answer) = attempt(&mut self.0, input, &start) {
-            return answer;
-        }
-        self.1.parse_next(input)
+        let failed = match attempt(&mut self.0, input, &start, None) {
+            Ok(answer) => return answer,
+            Err(failed) => failed,
+        };
+        attempt_last(&mut self.1, input, &start, failed)
     }
 }
 
@@ -77,13 +78,15 @@ impl<
     #[inline(always)]
     fn choice(&mut self, input: &mut I) -> Result<O, E> {
         let start = input.checkpoint();
-        if let Some(answer) = attempt(&mut self.0, input, &start) {
-            return answer;
-        }
-        if let Some(answer) = attempt(&mut self.1, input, &start) {
-            return answer;
-        }
-        self.2.parse_next(input)
+        let failed = match attempt(&mut self.0, input, &start, None) {
+            Ok(answer) => return answer,
+            Err(failed) => failed,
+        };
+        let failed = match attempt(&mut self.1, input, &start, failed) {
+            Ok(answer) => return answer,
+            Err(failed) => failed,
+        };
+        attempt_last(&mut self.2, input, &start, failed)
     }
 }
 
@@ -112,16 +115,19 @@ impl<
     #[inline(always)]
     fn choice(&mut self, input: &mut I) -> Result<O, E> {
         let start = input.checkpoint();
-        if let Some(answer) = attempt(&mut self.0, input, &start) {
-            return answer;
-        }
-        if let Some(answer) = attempt(&mut self.1, input, &start) {
-            return answer;
-        }
-        if let Some(answer) = attempt(&mut self.2, input, &start) {
-            return answer;
-        }
-        self.3.parse_next(input)
+        let failed = match attempt(&mut self.0, input, &start, None) {
+            Ok(answer) => return answer,
+            Err(failed) => failed,
+        };
+        let failed = match attempt(&mut self.1, input, &start, failed) {
+            Ok(answer) => return answer,
+            Err(failed) => failed,
+        };
+        let failed = match attempt(&mut self.2, input, &start, failed) {
+            Ok(answer) => return answer,
+            Err(failed) => failed,
+        };
+        attempt_last(&mut self.3, input, &start, failed)
     }
 }
 
@@ -154,19 +160,23 @@ impl<
     #[inline(always)]
     fn choice(&mut self, input: &mut I) -> Result<O, E> {
         let start = input.checkpoint();
-        if let Some(answer) = attempt(&mut self.0, input, &start) {
-            return answer;
-        }
-        if let Some(answer) = attempt(&mut self.1, input, &start) {
-            return answer;
-        }
-        if let Some(answer) = attempt(&mut self.2, input, &start) {
-            return answer;
-        }
-        if let Some(answer) = attempt(&mut self.3, input, &start) {
-            return answer;
-        }
-        self.4.parse_next(input)
+        let failed = match attempt(&mut self.0, input, &start, None) {
+            Ok(answer) => return answer,
+            Err(failed) => failed,
+        };
+        let failed = match attempt(&mut self.1, input, &start, failed) {
+            Ok(answer) => return answer,
+            Err(failed) => failed,
+        };
+        let failed = match attempt(&mut self.2, input, &start, failed) {
+            Ok(answer) => return answer,
+            Err(failed) => failed,
+        };
+        let failed = match attempt(&mut self.3, input, &start, failed) {
+            Ok(answer) => return answer,
+            Err(failed) => failed,
+        };
+        attempt_last(&mut self.4, input, &start, failed)
     }
 }
 
@@ -208,21 +218,26 @@ impl<
     #[inline(always)]
     fn choice(&mut self, input: &mut I) -> Result<O, E> {
         let start = input.checkpoint();
-        if let Some(answer) = attempt(&mut self.0, input, &start) {
-            return answer;
-        }
-        if let Some(answer) = attempt(&mut self.1, input, &start) {
-            return answer;
-        }
-        if let Some(answer) = attempt(&mut self.2, input, &start) {
-            return answer;
-        }
-        if let Some(answer) = attempt(&mut self.3, input, &start) {
-            return answer;
-        }
-        if let Some(answer) = attempt(&mut self.4, input, &start) {
-            return answer;
-        }
-        self.5.parse_next(input)
+        let failed = match attempt(&mut self.0, input, &start, None) {
+            Ok(answer) => return answer,
+            Err(failed) => failed,
+        };
+        let failed = match attempt(&mut self.1, input, &start, failed) {
+            Ok(answer) => return answer,
+            Err(failed) => failed,
+        };
+        let failed = match attempt(&mut self.2, input, &start, failed) {
+            Ok(answer) => return answer,
+            Err(failed) => failed,
+        };
+        let failed = match attempt(&mut self.3, input, &start, failed) {
+            Ok(answer) => return answer,
+            Err(failed) => failed,
+        };
+        let failed = match attempt(&mut self.4, input, &start, failed) {
+            Ok(answer) => return answer,
+            Err(failed) => failed,
+        };
+        attempt_last(&mut self.5, input, &start, failed)
     }
 }

@@ -59,7 +59,7 @@ returns-in-Err-clause-ran g c =
     let item = item_failed g.I.Stream.reading g.P.Parser.does g.E.HasKind.form _ _
     (g.P.Parser.state c.parse_next.new.self) _ (g.E.HasKind.kind c.in-Err.error)
     c.in-Err.ensures.ran in
-    failed_ran inv.1 below _ _ _ _ refl few item
+    failed_ran inv.1 below _ _ _ _ (ap Err c.append_position.ensures) few item
   where
     few : g.E.HasKind.kind c.in-Err.error ≡ backtrack → c.items.invariant.0 < c.args.missing
     few e = elim c.else-missing-eq0.branch [

@@ -4,7 +4,7 @@
 ghost use Rattle.parser_definitions.specs.Alt.{AltDoes};
 ghost use Rattle.parser_definitions.specs.Projects.Choices.{alt_meets, alt_terms};
 
-use crate::combinator::impls::alt::{Alt, attempt};
+use crate::combinator::impls::alt::{Alt, attempt, attempt_last};
 use stream_errors::parser_error::ParserError;
 use streams::stream::Stream;
 use winnow_core::parser::Parser;
@@ -52,25 +52,31 @@ impl<
     #[inline(always)]
     fn choice(&mut self, input: &mut I) -> Result<O, E> {
         let start = input.checkpoint();
-        if let Some(answer) = attempt(&mut self.0, input, &start) {
-            return answer;
-        }
-        if let Some(answer) = attempt(&mut self.1, input, &start) {
-            return answer;
-        }
-        if let Some(answer) = attempt(&mut self.2, input, &start) {
-            return answer;
-        }
-        if let Some(answer) = attempt(&mut self.3, input, &start) {
-            return answer;
-        }
-        if let Some(answer) = attempt(&mut self.4, input, &start) {
-            return answer;
-        }
-        if let Some(answer) = attempt(&mut self.5, input, &start) {
-            return answer;
-        }
-        self.6.parse_next(input)
+        let failed = match attempt(&mut self.0, input, &start, None) {
+            Ok(answer) => return answer,
+            Err(failed) => failed,
+        };
+        let failed = match attempt(&mut self.1, input, &start, failed) {
+            Ok(answer) => return answer,
+            Err(failed) => failed,
+        };
+        let failed = match attempt(&mut self.2, input, &start, failed) {
+            Ok(answer) => return answer,
+            Err(failed) => failed,
+        };
+        let failed = match attempt(&mut self.3, input, &start, failed) {
+            Ok(answer) => return answer,
+            Err(failed) => failed,
+        };
+        let failed = match attempt(&mut self.4, input, &start, failed) {
+            Ok(answer) => return answer,
+            Err(failed) => failed,
+        };
+        let failed = match attempt(&mut self.5, input, &start, failed) {
+            Ok(answer) => return answer,
+            Err(failed) => failed,
+        };
+        attempt_last(&mut self.6, input, &start, failed)
     }
 }
 
@@ -130,28 +136,35 @@ impl<
     #[inline(always)]
     fn choice(&mut self, input: &mut I) -> Result<O, E> {
         let start = input.checkpoint();
-        if let Some(answer) = attempt(&mut self.0, input, &start) {
-            return answer;
-        }
-        if let Some(answer) = attempt(&mut self.1, input, &start) {
-            return answer;
-        }
-        if let Some(answer) = attempt(&mut self.2, input, &start) {
-            return answer;
-        }
-        if let Some(answer) = attempt(&mut self.3, input, &start) {
-            return answer;
-        }
-        if let Some(answer) = attempt(&mut self.4, input, &start) {
-            return answer;
-        }
-        if let Some(answer) = attempt(&mut self.5, input, &start) {
-            return answer;
-        }
-        if let Some(answer) = attempt(&mut self.6, input, &start) {
-            return answer;
-        }
-        self.7.parse_next(input)
+        let failed = match attempt(&mut self.0, input, &start, None) {
+            Ok(answer) => return answer,
+            Err(failed) => failed,
+        };
+        let failed = match attempt(&mut self.1, input, &start, failed) {
+            Ok(answer) => return answer,
+            Err(failed) => failed,
+        };
+        let failed = match attempt(&mut self.2, input, &start, failed) {
+            Ok(answer) => return answer,
+            Err(failed) => failed,
+        };
+        let failed = match attempt(&mut self.3, input, &start, failed) {
+            Ok(answer) => return answer,
+            Err(failed) => failed,
+        };
+        let failed = match attempt(&mut self.4, input, &start, failed) {
+            Ok(answer) => return answer,
+            Err(failed) => failed,
+        };
+        let failed = match attempt(&mut self.5, input, &start, failed) {
+            Ok(answer) => return answer,
+            Err(failed) => failed,
+        };
+        let failed = match attempt(&mut self.6, input, &start, failed) {
+            Ok(answer) => return answer,
+            Err(failed) => failed,
+        };
+        attempt_last(&mut self.7, input, &start, failed)
     }
 }
 
@@ -220,30 +233,38 @@ impl<
     #[inline(always)]
     fn choice(&mut self, input: &mut I) -> Result<O, E> {
         let start = input.checkpoint();
-        if let Some(answer) = attempt(&mut self.0, input, &start) {
-            return answer;
-        }
-        if let Some(answer) = attempt(&mut self.1, input, &start) {
-            return answer;
-        }
-        if let Some(answer) = attempt(&mut self.2, input, &start) {
-            return answer;
-        }
-        if let Some(answer) = attempt(&mut self.3, input, &start) {
-            return answer;
-        }
-        if let Some(answer) = attempt(&mut self.4, input, &start) {
-            return answer;
-        }
-        if let Some(answer) = attempt(&mut self.5, input, &start) {
-            return answer;
-        }
-        if let Some(answer) = attempt(&mut self.6, input, &start) {
-            return answer;
-        }
-        if let Some(answer) = attempt(&mut self.7, input, &start) {
-            return answer;
-        }
-        self.8.parse_next(input)
+        let failed = match attempt(&mut self.0, input, &start, None) {
+            Ok(answer) => return answer,
+            Err(failed) => failed,
+        };
+        let failed = match attempt(&mut self.1, input, &start, failed) {
+            Ok(answer) => return answer,
+            Err(failed) => failed,
+        };
+        let failed = match attempt(&mut self.2, input, &start, failed) {
+            Ok(answer) => return answer,
+            Err(failed) => failed,
+        };
+        let failed = match attempt(&mut self.3, input, &start, failed) {
+            Ok(answer) => return answer,
+            Err(failed) => failed,
+        };
+        let failed = match attempt(&mut self.4, input, &start, failed) {
+            Ok(answer) => return answer,
+            Err(failed) => failed,
+        };
+        let failed = match attempt(&mut self.5, input, &start, failed) {
+            Ok(answer) => return answer,
+            Err(failed) => failed,
+        };
+        let failed = match attempt(&mut self.6, input, &start, failed) {
+            Ok(answer) => return answer,
+            Err(failed) => failed,
+        };
+        let failed = match attempt(&mut self.7, input, &start, failed) {
+            Ok(answer) => return answer,
+            Err(failed) => failed,
+        };
+        attempt_last(&mut self.8, input, &start, failed)
     }
 }

@@ -11,7 +11,7 @@ returns-in_err-output-clause-ran g c =
     let inv = c.items.invariant in
     let less : inv.0 < c.args.least = omega (arith, inv.2, c.items-test.true) in
     let item = every_failed g.I.Stream.reading g.P.Parser.does g.E.HasKind.form _ _
-    (g.P.Parser.state c.parse_next.new.self) _ (g.E.HasKind.kind c.in_err-output.field-0.0)
+    (g.P.Parser.state c.parse_item.new.parser) _ (g.E.HasKind.kind c.in_err-output.field-0.0)
     c.in_err-output.ensures.ran in
     failed_ran inv.1 less _ _ (g.E.HasKind.kind c.in_err-output.field-0.0) _
     (search rules depth 1) (λ is. less) item

@@ -37,7 +37,7 @@ returns-in_err-output-clause-ran g c range =
     let start = c.reset.ensures
     ∙ ap (λ r. back_at r (g.I.Stream.view c.parse_next.new.input)) c.checkpoint-start.ensures in
     let item = item_failed g.I.Stream.reading g.P.Parser.does g.E.HasKind.form _ _
-    (g.P.Parser.state c.parse_next-in-turns.new.self) _ (g.E.HasKind.kind c.in_err-output.field-0.0)
+    (g.P.Parser.state c.parse_item.new.parser) _ (g.E.HasKind.kind c.in_err-output.field-0.0)
     c.in_err-output.ensures.ran in
     item_fails (inv.1 range) _ (g.E.HasKind.kind c.in-Err.error) (search rules depth 1) _
     c.in-Err.ensures.ran below _ start _ _ (g.E.HasKind.kind c.in_err-output.field-0.0) item _

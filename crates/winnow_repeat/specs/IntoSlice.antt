@@ -8,7 +8,7 @@ use Rattle.stream_errors.specs.Given.{Keeping, KindGiven}
 use Rattle.parser_definitions.specs.Does.{Ran}
 use Rattle.parser_definitions.specs.Outcome.{Does}
 use Rattle.winnow_core.specs.Chain.{Items}
-use Rattle.winnow_slices.specs.declared.combinator.TooMany.{TooMany}
+use Rattle.winnow_repeat.specs.declared.combinator.slices.TooMany.{TooMany}
 pub mod Exact
 
 -- The kinds of the error for an output without an element, in a slice of `limit` elements.

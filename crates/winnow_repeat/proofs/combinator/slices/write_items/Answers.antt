@@ -2,13 +2,13 @@ use Rattle.std.proofs.Common.{rules, arith}
 use Rattle.winnow_core.specs.Ends.{fewer_tokens, same_units}
 use Rattle.winnow_repeat.specs.Called.{item_called, item_failed, item_stuck}
 use Rattle.winnow_repeat.specs.Loops.{reached_none}
-use Rattle.winnow_slices.proofs.IntoSliceExactLemmas.{counted_read, failed_read, full_read}
-use Rattle.winnow_slices.proofs.IntoSliceExactLemmas.{stuck_read}
-use Rattle.winnow_slices.proofs.SliceLemmas.{counted_ran, failed_ran, full_ran, stored_more}
-use Rattle.winnow_slices.proofs.SliceLemmas.{stored_none, stored_ran, stuck_ran, too_many_by_kind}
-use Rattle.winnow_slices.proofs.SliceLemmas.{within_slice}
-use Rattle.winnow_slices.specs.IntoSlice.{TooManyKind}
-use Rattle.winnow_slices.proofs.combinator.write_items.Goals as goal
+use Rattle.winnow_repeat.proofs.IntoSliceExactLemmas.{counted_read, failed_read, full_read}
+use Rattle.winnow_repeat.proofs.IntoSliceExactLemmas.{stuck_read}
+use Rattle.winnow_repeat.proofs.SliceLemmas.{counted_ran, failed_ran, full_ran, stored_more}
+use Rattle.winnow_repeat.proofs.SliceLemmas.{stored_none, stored_ran, stuck_ran, too_many_by_kind}
+use Rattle.winnow_repeat.proofs.SliceLemmas.{within_slice}
+use Rattle.winnow_repeat.specs.IntoSlice.{TooManyKind}
+use Rattle.winnow_repeat.proofs.combinator.slices.write_items.Goals as goal
 
 pub items-init : goal.items-init
 items-init g c = record {

@@ -1,12 +1,11 @@
-//! Combinators, as in winnow's documentation: repetition into a slice.
-#![tactic(auto, using(streams::specs::Ends::ends_follow))]
+//! Repetition into a slice of the caller, without allocating.
 
 ghost use Rattle.parser_definitions.specs.Does.{Ran};
 ghost use Rattle.std.specs.Prelude.{◌≡◌, false};
 ghost use Rattle.stream_errors.specs.Form.{answer_by};
 ghost use Rattle.parser_definitions.specs.Fill.{IntoSliceDoes};
-ghost use Rattle.winnow_slices.specs.IntoSlice.{StoresItems, TooManyKind};
-ghost use Rattle.winnow_slices.specs.IntoSlice.Exact.{ReadsIntoSlice};
+ghost use Rattle.winnow_repeat.specs.IntoSlice.{StoresItems, TooManyKind};
+ghost use Rattle.winnow_repeat.specs.IntoSlice.Exact.{ReadsIntoSlice};
 ghost use Rattle.winnow_core.specs.Exact.{UnlessWanted};
 ghost use Rattle.winnow_core.specs.Tells.{Tells};
 

@@ -17,9 +17,9 @@ use Rattle.parser_definitions.specs.Projects.{Agreement, Complete, Projects}
 use Rattle.winnow_core.specs.Chain.{Items}
 use Rattle.winnow_core.specs.Elements.{length-zero}
 use Rattle.winnow_core.specs.Exact.{UnlessWanted, agreement_of}
-use Rattle.winnow_slices.specs.IntoSlice.{Overwrites}
-use Rattle.winnow_slices.specs.IntoSlice.Exact.{AllMatches, HasMore, ReadsIntoSlice}
-use Rattle.winnow_slices.proofs.SliceLemmas.{Stored, as_long}
+use Rattle.winnow_repeat.specs.IntoSlice.{Overwrites}
+use Rattle.winnow_repeat.specs.IntoSlice.Exact.{AllMatches, HasMore, ReadsIntoSlice}
+use Rattle.winnow_repeat.proofs.SliceLemmas.{Stored, as_long}
 
 -- ---- laws
 

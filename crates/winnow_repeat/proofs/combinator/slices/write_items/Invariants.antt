@@ -1,9 +1,9 @@
 use Rattle.parser_definitions.specs.Does.{Ran}
 use Rattle.parser_definitions.specs.Fill.{SliceTurn}
 use Rattle.winnow_repeat.specs.Loops.{Reached}
-use Rattle.winnow_slices.specs.IntoSlice.{TooManyKind}
-use Rattle.winnow_slices.proofs.SliceLemmas.{Stored}
-use Rattle.winnow_slices.proofs.combinator.write_items.Given as goal
+use Rattle.winnow_repeat.specs.IntoSlice.{TooManyKind}
+use Rattle.winnow_repeat.proofs.SliceLemmas.{Stored}
+use Rattle.winnow_repeat.proofs.combinator.slices.write_items.Given as goal
 
 abbrev pub invariant-items : goal.invariant-items
 invariant-items g l = record {

@@ -27,8 +27,8 @@ use Rattle.winnow_core.specs.Tells.{Tells}
 use Rattle.winnow_repeat.specs.Called.{there}
 use Rattle.winnow_repeat.specs.Loops.{Reached, reached_last, reached_more, set_overwrites}
 use Rattle.winnow_repeat.specs.Turns.{misuse}
-use Rattle.winnow_slices.specs.IntoSlice.{Overwrites, TooManyKind}
-use Rattle.winnow_slices.specs.declared.combinator.TooMany.{TooMany}
+use Rattle.winnow_repeat.specs.IntoSlice.{Overwrites, TooManyKind}
+use Rattle.winnow_repeat.specs.declared.combinator.slices.TooMany.{TooMany}
 
 -- the error for an output without an element backtracks, or is out of memory
 pub too_many_by_kind : (keeping : TooMany → Keeping) (n : ℕ) (k : Kind)

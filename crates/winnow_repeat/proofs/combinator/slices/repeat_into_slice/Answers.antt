@@ -1,6 +1,6 @@
-use Rattle.winnow_slices.specs.IntoSlice.{TooManyKind}
-use Rattle.winnow_slices.proofs.SliceLemmas.{slice_tells}
-use Rattle.winnow_slices.proofs.combinator.repeat_into_slice.Goals as goal
+use Rattle.winnow_repeat.specs.IntoSlice.{TooManyKind}
+use Rattle.winnow_repeat.proofs.SliceLemmas.{slice_tells}
+use Rattle.winnow_repeat.proofs.combinator.slices.repeat_into_slice.Goals as goal
 
 pub returns-clause-tells : goal.returns-clause-tells
 returns-clause-tells g c is equal =

@@ -5,7 +5,7 @@ use Rattle.streams.specs.Kind.{Kind, memory}
 use Rattle.stream_errors.specs.Form.{Answer}
 use Rattle.stream_sets.specs.Range.{from_to}
 use Rattle.grammars.specs.Grammar.{Each, Grammar, Many}
-use Rattle.winnow_slices.specs.IntoSlice.{Overwrites}
+use Rattle.winnow_repeat.specs.IntoSlice.{Overwrites}
 
 -- as many consecutive matches as there are
 abbrev pub AllMatches : {T O : Type 0} → Grammar T O → Grammar T (List O)

@@ -1,3 +1,0 @@
--- Lemmas of this crate.
-mod IntoSliceExactLemmas
-mod SliceLemmas
