@@ -9,6 +9,8 @@ mod branch;
 #[cfg(test)]
 mod common;
 #[cfg(test)]
+mod joined;
+#[cfg(test)]
 mod multi;
 #[cfg(test)]
 mod sequence;

@@ -3,7 +3,7 @@ use std::alloc::Global;
 use test_support::refusing::Refusing;
 use winnow::ascii::impls::{Alpha1, DecUint, Digit1};
 use winnow::combinator::{alt, cut_err, opt, repeat};
-use winnow::error::{ContextError, EmptyError, ErrMode, InputError, OrNoMemory, ParseFault};
+use winnow::error::{ContextError, EmptyError, ErrMode, ExpectedError, InputError, OrNoMemory, ParseFault};
 use winnow::prelude::*;
 use winnow::stream::position_of;
 use winnow::token::impls::Any;
@@ -75,16 +75,19 @@ fn growth_may_fail(rt: HostRuntime) {
 }
 
 #[test]
-fn alt_returns_the_last_error(rt: HostRuntime) {
-    let alloc = rt.alloc();
+fn joins_may_be_refused(rt: HostRuntime) {
+    let heap = Refusing::always_from(rt.alloc(), 2);
     let mut input = "!";
-    let read: Result<&str, ErrMode<Message>> = alt((
-        Alpha1.context(alloc, "a word"),
-        Digit1.context(alloc, "a number"),
+    let read: Result<&str, ExpectedError<&str, &Refusing<Global>>> = alt((
+        Alpha1.context(&heap, "a word"),
+        Digit1.context(&heap, "a number"),
     ))
     .parse_next(&mut input);
     match read {
-        Err(ErrMode::Backtrack(error)) => assert_eq!(rt; error.context(), ["a number"].as_slice()),
+        Err(error) => {
+            assert!(rt; ParserError::<&str>::is_backtrack(&error));
+            assert_eq!(rt; error.expected().len(), 0);
+        }
         _ => assert!(rt; false, "another result"),
     }
 }

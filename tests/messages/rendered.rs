@@ -3,7 +3,7 @@ use std::alloc::Global;
 use std::fmt::Display;
 use std::process::Abort;
 use winnow::ascii::impls::{Alpha1, DecUint, Digit1};
-use winnow::combinator::{cut_err, repeat, separated_pair, terminated};
+use winnow::combinator::{alt, cut_err, repeat, separated_pair, terminated};
 use winnow::error::{ContextError, EmptyError, ErrMode, ExpectedError, InputError, ParseFault};
 use winnow::prelude::*;
 use winnow::stream::{Excerpt, LocatingSlice, Partial, Position, position_in};
@@ -223,20 +223,11 @@ fn other_inputs(rt: HostRuntime) {
 
 /// A switch, or a number: the error has the expected items of both branches.
 fn value(alloc: Global, input: &mut &str) -> Result<(), ExpectedError<&'static str>> {
-    let start = *input;
-    let switch: Result<(), ExpectedError<_>> =
-        "on".void().context(alloc, "a switch").parse_next(input);
-    let Err(first) = switch else {
-        return Ok(());
-    };
-    *input = start;
-    let number: Result<(), ExpectedError<_>> =
-        Digit1.void().context(alloc, "a number").parse_next(input);
-    let Err(second) = number else {
-        return Ok(());
-    };
-    *input = start;
-    Err(first.joined(second))
+    alt((
+        "on".void().context(alloc, "a switch"),
+        Digit1.void().context(alloc, "a number"),
+    ))
+    .parse_next(input)
 }
 
 #[test]
