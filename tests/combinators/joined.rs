@@ -105,7 +105,7 @@ impl<I: Stream> ParserError<I> for Calls {
 }
 
 /// Checks that a parser fails with these calls.
-fn fails<'i, O, P: Parser<&'i str, O, Calls> + Drop>(
+fn fails<'i, O: Drop, P: Parser<&'i str, O, Calls> + Drop>(
     rt: &impl Abort,
     mut parser: P,
     text: &'i str,
@@ -132,15 +132,15 @@ fn errors_of_branches_are_joined(rt: HostRuntime) {
 #[test]
 fn errors_of_needed_items_get_their_position(rt: HostRuntime) {
     let alloc = rt.alloc();
-    fails(&rt, repeat::<_, _, (), _, _, _>(alloc, 1.., 'a'), "x", calls(0, 1));
-    fails(&rt, repeat::<_, _, (), _, _, _>(alloc, 2.., 'a'), "ax", calls(0, 1));
-    fails(&rt, repeat::<_, _, (), _, _, _>(alloc, 2, 'a'), "ax", calls(0, 1));
+    fails(&rt, repeat::<_, _, _, (), _, _, _>(alloc, 1.., 'a'), "x", calls(0, 1));
+    fails(&rt, repeat::<_, _, _, (), _, _, _>(alloc, 2.., 'a'), "ax", calls(0, 1));
+    fails(&rt, repeat::<_, _, _, (), _, _, _>(alloc, 2, 'a'), "ax", calls(0, 1));
     let mut sum = repeat(alloc, 1.., 'a').fold(|| 0_u32, |n: u32, _: char| n);
     fails(&rt, sum.by_ref(), "x", calls(0, 1));
     let mut buffer = ['-', '-'];
     fails(&rt, fill('a', &mut buffer), "ax", calls(0, 1));
-    let lines = repeat_till::<_, _, (), _, _, _, _, _>(alloc, 0.., 'a', ';');
+    let lines = repeat_till::<_, _, _, _, _, (), _, _, _>(alloc, 0.., 'a', ';');
     fails(&rt, lines, "ax", calls(0, 1));
-    fails(&rt, separated::<_, _, (), _, _, _, _, _>(alloc, 2, 'a', ','), "a,x", calls(0, 1));
-    fails(&rt, separated::<_, _, (), _, _, _, _, _>(alloc, 1.., 'a', ','), "x", calls(0, 1));
+    fails(&rt, separated::<_, _, _, _, _, (), _, _, _>(alloc, 2, 'a', ','), "a,x", calls(0, 1));
+    fails(&rt, separated::<_, _, _, _, _, (), _, _, _>(alloc, 1.., 'a', ','), "x", calls(0, 1));
 }

@@ -76,11 +76,15 @@ fn growth_may_fail(rt: HostRuntime) {
 
 #[test]
 fn joins_may_be_refused(rt: HostRuntime) {
-    let heap = Refusing::always_from(rt.alloc(), 2);
+    // A list has room for four contexts at first.
+    let heap = Refusing::always_from(rt.alloc(), 5);
     let mut input = "!";
-    let read: Result<&str, ExpectedError<&str, &Refusing<Global>>> = alt((
-        Alpha1.context(&heap, "a word"),
-        Digit1.context(&heap, "a number"),
+    let read: Result<char, ExpectedError<&str, &Refusing<Global>>> = alt((
+        'a'.context(&heap, "a"),
+        'b'.context(&heap, "b"),
+        'c'.context(&heap, "c"),
+        'd'.context(&heap, "d"),
+        'e'.context(&heap, "e"),
     ))
     .parse_next(&mut input);
     match read {
