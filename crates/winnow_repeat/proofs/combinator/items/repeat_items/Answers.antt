@@ -1,5 +1,5 @@
 use Rattle.winnow_core.specs.Ends.{fewer_tokens, same_units}
-use Rattle.std.proofs.Common.{rules, arith, refl, ◌≡◌, ◌<◌, ◌+◌}
+use Rattle.std.proofs.Common.{rules, arith, refl, ap, Err, ◌≡◌, ◌<◌, ◌+◌}
 use Rattle.streams.specs.Kind.{backtrack}
 use Rattle.winnow_repeat.specs.Called.{collected_more, collected_none, enough_ran, failed_ran}
 use Rattle.winnow_repeat.specs.Called.{full_ran, item_called, item_failed, item_stuck, stuck_ran}

@@ -1,4 +1,4 @@
-use Rattle.std.proofs.Common.{rules, refl, arith, ◌≡◌, ◌<◌, ◌+◌}
+use Rattle.std.proofs.Common.{rules, refl, ap, Err, arith, ◌≡◌, ◌<◌, ◌+◌}
 use Rattle.streams.specs.Kind.{backtrack}
 use Rattle.winnow_repeat.specs.Room.{no_room, room_behind_more, room_behind_none, some_room}
 use Rattle.winnow_separated.proofs.LinkLemmas.{only_error, only_none, only_some}
@@ -60,7 +60,7 @@ returns-in-Err-clause-ran g c =
     _ _
     (g.P.Parser.state c.run.new.self.parser, g.S.Parser.state c.run.new.self.separator) _
     (g.E.HasKind.kind c.in-Err.error) c.in-Err.ensures.ran in
-    λ r. failed_ran (inv.1 r) below _ _ _ _ refl few element
+    λ r. failed_ran (inv.1 r) below _ _ _ _ (ap Err c.append_position.ensures) few element
   where
     few : g.E.HasKind.kind c.in-Err.error ≡ backtrack → c.links.invariant.0 < c.args.missing
     few e = elim c.else-missing-eq0.branch [
