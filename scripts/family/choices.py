@@ -86,7 +86,7 @@ def attempt(step, k):
 
 def choice_answer(n, answering):
     """Returns the proof of the clause `ran` where branch `answering` of n gives the result."""
-    goal = "returns-clause-ran" if answering == n else "returns-in-Some-%s-clause-ran" % attempt("attempt", answering)[2:].removeprefix("attempt-")
+    goal = "returns-clause-ran" if answering == n else "returns-in-Ok-%s-clause-ran" % attempt("attempt", answering)[2:].removeprefix("attempt-")
 
     def does(k):
         return "g.P%d.Parser.does" % k
@@ -97,13 +97,13 @@ def choice_answer(n, answering):
             term = "(AltDoes %s %s)" % (does(x), term)
         return term
 
-    term = "c.parse_next.ensures.ran"
+    term = "c.attempt_last.ensures.ran"
     if answering < n:
-        found = attempt("in-Some", answering) + ".ensures.ran"
+        found = attempt("in-Ok", answering) + ".ensures.ran"
         term = "(alt_here %s %s _ _ _ _ _ %s.0 %s.1 refl)" % (does(answering), rest(answering + 1), found, found)
     for k in range(answering - 1, 0, -1):
-        at = "c.checkpoint-start.ensures" if k == 1 else "(sym (ap (λ x. x.left) %s.ensures.ran.2))" % attempt("in_default", k - 1)
-        term = "(alt_next %s %s _ _ _ _ _ _ _ %s %s.ensures.ran %s)" % (does(k), rest(k + 1), at, attempt("in_default", k), term)
+        at = "c.checkpoint-start.ensures" if k == 1 else "(sym (ap (λ x. x.left) %s.ensures.ran.2))" % attempt("in-Err", k - 1)
+        term = "(alt_next %s %s _ _ _ _ _ _ _ %s %s.ensures.ran %s)" % (does(k), rest(k + 1), at, attempt("in-Err", k), term)
     return "pub %s : goal.%s\n%s g c = %s" % (goal, goal, goal, term[1:-1])
 
 

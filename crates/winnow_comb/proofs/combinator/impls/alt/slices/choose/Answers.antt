@@ -20,17 +20,17 @@ loop-k-init g c = record {
   starts = c.checkpoint-start.ensures;
 }
 
-pub returns-in-Some-clause-ran : goal.returns-in-Some-clause-ran
-returns-in-Some-clause-ran g c =
+pub returns-in-Ok-clause-ran : goal.returns-in-Ok-clause-ran
+returns-in-Ok-clause-ran g c =
     answered g.I.Stream.reading g.P.Parser.does g.E.HasKind.form g.P.Parser.state
     c.args.branches.now c.loop-k.branches (g.I.Stream.view c.args.input.now)
     (g.I.Stream.view c.loop-k.input) c.loop-k.k _ c.index-branches-k.result
     c.attempt.new.branch c.loop-k.invariant.earlier (omega arith) refl _ _
-    c.in-Some.ensures.ran.0 (λ e. absurd (c.in-Some.ensures.ran.1 e))
+    c.in-Ok.ensures.ran.0 (λ e. absurd (c.in-Ok.ensures.ran.1 e))
 
 pub loop-k-preserved : goal.loop-k-preserved
 loop-k-preserved g c =
-    let ran = c.in_default.ensures.ran in
+    let ran = c.in-Err.ensures.ran in
     record {
       earlier = earlier_more g.I.Stream.reading g.P.Parser.does g.E.HasKind.form
           g.P.Parser.state c.args.branches.now c.loop-k.branches
@@ -40,7 +40,7 @@ loop-k-preserved g c =
           (g.I.Stream.view c.attempt.new.input) (omega arith) c.loop-k.invariant.starts ran.1
           ran.2;
       callable = All-set g.P.Parser.can_parse c.loop-k.branches c.loop-k.k c.attempt.new.branch
-          c.in_default.ensures.again c.loop-k.invariant.callable;
+          c.in-Err.ensures.again c.loop-k.invariant.callable;
       starts = sym (ap (λ x. x.left) ran.2);
     }
 
@@ -55,5 +55,5 @@ returns-clause-ran g c =
     answered g.I.Stream.reading g.P.Parser.does g.E.HasKind.form g.P.Parser.state
     c.args.branches.now c.loop-k.branches (g.I.Stream.view c.args.input.now)
     (g.I.Stream.view c.loop-k.input) (length c.args.branches.now - 1) _
-    c.index-branches-last.result c.parse_next.new.self earlier (omega arith) refl _ _
-    c.parse_next.ensures.ran (λ e. omega arith)
+    c.index-branches-last.result c.attempt_last.new.branch earlier (omega arith) refl _ _
+    c.attempt_last.ensures.ran (λ e. omega arith)

@@ -4,31 +4,31 @@ use Rattle.parser_definitions.specs.Alt.{AltDoes}
 use Rattle.winnow_comb.proofs.AltLemmas.{alt_here, alt_next}
 use Rattle.winnow_comb.proofs.combinator.impls.alt.tuples.Tuple4Alt.choice.Goals as goal
 
-pub returns-in-Some-attempt-clause-ran : goal.returns-in-Some-attempt-clause-ran
-returns-in-Some-attempt-clause-ran g c =
+pub returns-in-Ok-attempt-clause-ran : goal.returns-in-Ok-attempt-clause-ran
+returns-in-Ok-attempt-clause-ran g c =
     alt_next g.P1.Parser.does
     (AltDoes g.P2.Parser.does (AltDoes g.P3.Parser.does g.P4.Parser.does)) _ _ _ _ _ _ _
-    c.checkpoint-start.ensures c.in_default.ensures.ran
+    c.checkpoint-start.ensures c.in-Err.ensures.ran
     (alt_here g.P2.Parser.does (AltDoes g.P3.Parser.does g.P4.Parser.does) _ _ _ _ _
-    c.in-Some-attempt.ensures.ran.0 c.in-Some-attempt.ensures.ran.1 refl)
+    c.in-Ok-attempt.ensures.ran.0 c.in-Ok-attempt.ensures.ran.1 refl)
 
-pub returns-in-Some-attempt-2-clause-ran : goal.returns-in-Some-attempt-2-clause-ran
-returns-in-Some-attempt-2-clause-ran g c =
+pub returns-in-Ok-attempt-2-clause-ran : goal.returns-in-Ok-attempt-2-clause-ran
+returns-in-Ok-attempt-2-clause-ran g c =
     alt_next g.P1.Parser.does
     (AltDoes g.P2.Parser.does (AltDoes g.P3.Parser.does g.P4.Parser.does)) _ _ _ _ _ _ _
-    c.checkpoint-start.ensures c.in_default.ensures.ran
+    c.checkpoint-start.ensures c.in-Err.ensures.ran
     (alt_next g.P2.Parser.does (AltDoes g.P3.Parser.does g.P4.Parser.does) _ _ _ _ _ _ _
-    (sym (ap (λ x. x.left) c.in_default.ensures.ran.2)) c.in_default-attempt.ensures.ran
-    (alt_here g.P3.Parser.does g.P4.Parser.does _ _ _ _ _ c.in-Some-attempt-2.ensures.ran.0
-    c.in-Some-attempt-2.ensures.ran.1 refl))
+    (sym (ap (λ x. x.left) c.in-Err.ensures.ran.2)) c.in-Err-attempt.ensures.ran
+    (alt_here g.P3.Parser.does g.P4.Parser.does _ _ _ _ _ c.in-Ok-attempt-2.ensures.ran.0
+    c.in-Ok-attempt-2.ensures.ran.1 refl))
 
 pub returns-clause-ran : goal.returns-clause-ran
 returns-clause-ran g c =
     alt_next g.P1.Parser.does
     (AltDoes g.P2.Parser.does (AltDoes g.P3.Parser.does g.P4.Parser.does)) _ _ _ _ _ _ _
-    c.checkpoint-start.ensures c.in_default.ensures.ran
+    c.checkpoint-start.ensures c.in-Err.ensures.ran
     (alt_next g.P2.Parser.does (AltDoes g.P3.Parser.does g.P4.Parser.does) _ _ _ _ _ _ _
-    (sym (ap (λ x. x.left) c.in_default.ensures.ran.2)) c.in_default-attempt.ensures.ran
+    (sym (ap (λ x. x.left) c.in-Err.ensures.ran.2)) c.in-Err-attempt.ensures.ran
     (alt_next g.P3.Parser.does g.P4.Parser.does _ _ _ _ _ _ _
-    (sym (ap (λ x. x.left) c.in_default-attempt.ensures.ran.2))
-    c.in_default-attempt-2.ensures.ran c.parse_next.ensures.ran))
+    (sym (ap (λ x. x.left) c.in-Err-attempt.ensures.ran.2)) c.in-Err-attempt-2.ensures.ran
+    c.attempt_last.ensures.ran))

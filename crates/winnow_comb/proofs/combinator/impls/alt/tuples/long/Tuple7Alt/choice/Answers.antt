@@ -4,112 +4,112 @@ use Rattle.parser_definitions.specs.Alt.{AltDoes}
 use Rattle.winnow_comb.proofs.AltLemmas.{alt_here, alt_next}
 use Rattle.winnow_comb.proofs.combinator.impls.alt.tuples.long.Tuple7Alt.choice.Goals as goal
 
-pub returns-in-Some-attempt-clause-ran : goal.returns-in-Some-attempt-clause-ran
-returns-in-Some-attempt-clause-ran g c =
+pub returns-in-Ok-attempt-clause-ran : goal.returns-in-Ok-attempt-clause-ran
+returns-in-Ok-attempt-clause-ran g c =
     alt_next g.P1.Parser.does
     (AltDoes g.P2.Parser.does
     (AltDoes g.P3.Parser.does
     (AltDoes g.P4.Parser.does
     (AltDoes g.P5.Parser.does (AltDoes g.P6.Parser.does g.P7.Parser.does))))) _ _ _ _ _
-    _ _ c.checkpoint-start.ensures c.in_default.ensures.ran
+    _ _ c.checkpoint-start.ensures c.in-Err.ensures.ran
     (alt_here g.P2.Parser.does
     (AltDoes g.P3.Parser.does
     (AltDoes g.P4.Parser.does
     (AltDoes g.P5.Parser.does (AltDoes g.P6.Parser.does g.P7.Parser.does)))) _ _ _ _ _
-    c.in-Some-attempt.ensures.ran.0 c.in-Some-attempt.ensures.ran.1 refl)
+    c.in-Ok-attempt.ensures.ran.0 c.in-Ok-attempt.ensures.ran.1 refl)
 
-pub returns-in-Some-attempt-2-clause-ran : goal.returns-in-Some-attempt-2-clause-ran
-returns-in-Some-attempt-2-clause-ran g c =
+pub returns-in-Ok-attempt-2-clause-ran : goal.returns-in-Ok-attempt-2-clause-ran
+returns-in-Ok-attempt-2-clause-ran g c =
     alt_next g.P1.Parser.does
     (AltDoes g.P2.Parser.does
     (AltDoes g.P3.Parser.does
     (AltDoes g.P4.Parser.does
     (AltDoes g.P5.Parser.does (AltDoes g.P6.Parser.does g.P7.Parser.does))))) _ _ _ _ _
-    _ _ c.checkpoint-start.ensures c.in_default.ensures.ran
+    _ _ c.checkpoint-start.ensures c.in-Err.ensures.ran
     (alt_next g.P2.Parser.does
     (AltDoes g.P3.Parser.does
     (AltDoes g.P4.Parser.does
     (AltDoes g.P5.Parser.does (AltDoes g.P6.Parser.does g.P7.Parser.does)))) _ _ _ _ _ _
-    _ (sym (ap (λ x. x.left) c.in_default.ensures.ran.2)) c.in_default-attempt.ensures.ran
+    _ (sym (ap (λ x. x.left) c.in-Err.ensures.ran.2)) c.in-Err-attempt.ensures.ran
     (alt_here g.P3.Parser.does
     (AltDoes g.P4.Parser.does
     (AltDoes g.P5.Parser.does (AltDoes g.P6.Parser.does g.P7.Parser.does))) _ _ _ _ _
-    c.in-Some-attempt-2.ensures.ran.0 c.in-Some-attempt-2.ensures.ran.1 refl))
+    c.in-Ok-attempt-2.ensures.ran.0 c.in-Ok-attempt-2.ensures.ran.1 refl))
 
-pub returns-in-Some-attempt-3-clause-ran : goal.returns-in-Some-attempt-3-clause-ran
-returns-in-Some-attempt-3-clause-ran g c =
+pub returns-in-Ok-attempt-3-clause-ran : goal.returns-in-Ok-attempt-3-clause-ran
+returns-in-Ok-attempt-3-clause-ran g c =
     alt_next g.P1.Parser.does
     (AltDoes g.P2.Parser.does
     (AltDoes g.P3.Parser.does
     (AltDoes g.P4.Parser.does
     (AltDoes g.P5.Parser.does (AltDoes g.P6.Parser.does g.P7.Parser.does))))) _ _ _ _ _
-    _ _ c.checkpoint-start.ensures c.in_default.ensures.ran
+    _ _ c.checkpoint-start.ensures c.in-Err.ensures.ran
     (alt_next g.P2.Parser.does
     (AltDoes g.P3.Parser.does
     (AltDoes g.P4.Parser.does
     (AltDoes g.P5.Parser.does (AltDoes g.P6.Parser.does g.P7.Parser.does)))) _ _ _ _ _ _
-    _ (sym (ap (λ x. x.left) c.in_default.ensures.ran.2)) c.in_default-attempt.ensures.ran
+    _ (sym (ap (λ x. x.left) c.in-Err.ensures.ran.2)) c.in-Err-attempt.ensures.ran
     (alt_next g.P3.Parser.does
     (AltDoes g.P4.Parser.does
     (AltDoes g.P5.Parser.does (AltDoes g.P6.Parser.does g.P7.Parser.does))) _ _ _ _ _ _
-    _ (sym (ap (λ x. x.left) c.in_default-attempt.ensures.ran.2))
-    c.in_default-attempt-2.ensures.ran
+    _ (sym (ap (λ x. x.left) c.in-Err-attempt.ensures.ran.2))
+    c.in-Err-attempt-2.ensures.ran
     (alt_here g.P4.Parser.does
     (AltDoes g.P5.Parser.does (AltDoes g.P6.Parser.does g.P7.Parser.does)) _ _ _ _ _
-    c.in-Some-attempt-3.ensures.ran.0 c.in-Some-attempt-3.ensures.ran.1 refl)))
+    c.in-Ok-attempt-3.ensures.ran.0 c.in-Ok-attempt-3.ensures.ran.1 refl)))
 
-pub returns-in-Some-attempt-4-clause-ran : goal.returns-in-Some-attempt-4-clause-ran
-returns-in-Some-attempt-4-clause-ran g c =
+pub returns-in-Ok-attempt-4-clause-ran : goal.returns-in-Ok-attempt-4-clause-ran
+returns-in-Ok-attempt-4-clause-ran g c =
     alt_next g.P1.Parser.does
     (AltDoes g.P2.Parser.does
     (AltDoes g.P3.Parser.does
     (AltDoes g.P4.Parser.does
     (AltDoes g.P5.Parser.does (AltDoes g.P6.Parser.does g.P7.Parser.does))))) _ _ _ _ _
-    _ _ c.checkpoint-start.ensures c.in_default.ensures.ran
+    _ _ c.checkpoint-start.ensures c.in-Err.ensures.ran
     (alt_next g.P2.Parser.does
     (AltDoes g.P3.Parser.does
     (AltDoes g.P4.Parser.does
     (AltDoes g.P5.Parser.does (AltDoes g.P6.Parser.does g.P7.Parser.does)))) _ _ _ _ _ _
-    _ (sym (ap (λ x. x.left) c.in_default.ensures.ran.2)) c.in_default-attempt.ensures.ran
+    _ (sym (ap (λ x. x.left) c.in-Err.ensures.ran.2)) c.in-Err-attempt.ensures.ran
     (alt_next g.P3.Parser.does
     (AltDoes g.P4.Parser.does
     (AltDoes g.P5.Parser.does (AltDoes g.P6.Parser.does g.P7.Parser.does))) _ _ _ _ _ _
-    _ (sym (ap (λ x. x.left) c.in_default-attempt.ensures.ran.2))
-    c.in_default-attempt-2.ensures.ran
+    _ (sym (ap (λ x. x.left) c.in-Err-attempt.ensures.ran.2))
+    c.in-Err-attempt-2.ensures.ran
     (alt_next g.P4.Parser.does
     (AltDoes g.P5.Parser.does (AltDoes g.P6.Parser.does g.P7.Parser.does)) _ _ _ _ _ _ _
-    (sym (ap (λ x. x.left) c.in_default-attempt-2.ensures.ran.2))
-    c.in_default-attempt-3.ensures.ran
+    (sym (ap (λ x. x.left) c.in-Err-attempt-2.ensures.ran.2))
+    c.in-Err-attempt-3.ensures.ran
     (alt_here g.P5.Parser.does (AltDoes g.P6.Parser.does g.P7.Parser.does) _ _ _ _ _
-    c.in-Some-attempt-4.ensures.ran.0 c.in-Some-attempt-4.ensures.ran.1 refl))))
+    c.in-Ok-attempt-4.ensures.ran.0 c.in-Ok-attempt-4.ensures.ran.1 refl))))
 
-pub returns-in-Some-attempt-5-clause-ran : goal.returns-in-Some-attempt-5-clause-ran
-returns-in-Some-attempt-5-clause-ran g c =
+pub returns-in-Ok-attempt-5-clause-ran : goal.returns-in-Ok-attempt-5-clause-ran
+returns-in-Ok-attempt-5-clause-ran g c =
     alt_next g.P1.Parser.does
     (AltDoes g.P2.Parser.does
     (AltDoes g.P3.Parser.does
     (AltDoes g.P4.Parser.does
     (AltDoes g.P5.Parser.does (AltDoes g.P6.Parser.does g.P7.Parser.does))))) _ _ _ _ _
-    _ _ c.checkpoint-start.ensures c.in_default.ensures.ran
+    _ _ c.checkpoint-start.ensures c.in-Err.ensures.ran
     (alt_next g.P2.Parser.does
     (AltDoes g.P3.Parser.does
     (AltDoes g.P4.Parser.does
     (AltDoes g.P5.Parser.does (AltDoes g.P6.Parser.does g.P7.Parser.does)))) _ _ _ _ _ _
-    _ (sym (ap (λ x. x.left) c.in_default.ensures.ran.2)) c.in_default-attempt.ensures.ran
+    _ (sym (ap (λ x. x.left) c.in-Err.ensures.ran.2)) c.in-Err-attempt.ensures.ran
     (alt_next g.P3.Parser.does
     (AltDoes g.P4.Parser.does
     (AltDoes g.P5.Parser.does (AltDoes g.P6.Parser.does g.P7.Parser.does))) _ _ _ _ _ _
-    _ (sym (ap (λ x. x.left) c.in_default-attempt.ensures.ran.2))
-    c.in_default-attempt-2.ensures.ran
+    _ (sym (ap (λ x. x.left) c.in-Err-attempt.ensures.ran.2))
+    c.in-Err-attempt-2.ensures.ran
     (alt_next g.P4.Parser.does
     (AltDoes g.P5.Parser.does (AltDoes g.P6.Parser.does g.P7.Parser.does)) _ _ _ _ _ _ _
-    (sym (ap (λ x. x.left) c.in_default-attempt-2.ensures.ran.2))
-    c.in_default-attempt-3.ensures.ran
+    (sym (ap (λ x. x.left) c.in-Err-attempt-2.ensures.ran.2))
+    c.in-Err-attempt-3.ensures.ran
     (alt_next g.P5.Parser.does (AltDoes g.P6.Parser.does g.P7.Parser.does) _ _ _ _ _ _ _
-    (sym (ap (λ x. x.left) c.in_default-attempt-3.ensures.ran.2))
-    c.in_default-attempt-4.ensures.ran
+    (sym (ap (λ x. x.left) c.in-Err-attempt-3.ensures.ran.2))
+    c.in-Err-attempt-4.ensures.ran
     (alt_here g.P6.Parser.does g.P7.Parser.does _ _ _ _ _
-    c.in-Some-attempt-5.ensures.ran.0 c.in-Some-attempt-5.ensures.ran.1 refl)))))
+    c.in-Ok-attempt-5.ensures.ran.0 c.in-Ok-attempt-5.ensures.ran.1 refl)))))
 
 pub returns-clause-ran : goal.returns-clause-ran
 returns-clause-ran g c =
@@ -118,24 +118,24 @@ returns-clause-ran g c =
     (AltDoes g.P3.Parser.does
     (AltDoes g.P4.Parser.does
     (AltDoes g.P5.Parser.does (AltDoes g.P6.Parser.does g.P7.Parser.does))))) _ _ _ _ _
-    _ _ c.checkpoint-start.ensures c.in_default.ensures.ran
+    _ _ c.checkpoint-start.ensures c.in-Err.ensures.ran
     (alt_next g.P2.Parser.does
     (AltDoes g.P3.Parser.does
     (AltDoes g.P4.Parser.does
     (AltDoes g.P5.Parser.does (AltDoes g.P6.Parser.does g.P7.Parser.does)))) _ _ _ _ _ _
-    _ (sym (ap (λ x. x.left) c.in_default.ensures.ran.2)) c.in_default-attempt.ensures.ran
+    _ (sym (ap (λ x. x.left) c.in-Err.ensures.ran.2)) c.in-Err-attempt.ensures.ran
     (alt_next g.P3.Parser.does
     (AltDoes g.P4.Parser.does
     (AltDoes g.P5.Parser.does (AltDoes g.P6.Parser.does g.P7.Parser.does))) _ _ _ _ _ _
-    _ (sym (ap (λ x. x.left) c.in_default-attempt.ensures.ran.2))
-    c.in_default-attempt-2.ensures.ran
+    _ (sym (ap (λ x. x.left) c.in-Err-attempt.ensures.ran.2))
+    c.in-Err-attempt-2.ensures.ran
     (alt_next g.P4.Parser.does
     (AltDoes g.P5.Parser.does (AltDoes g.P6.Parser.does g.P7.Parser.does)) _ _ _ _ _ _ _
-    (sym (ap (λ x. x.left) c.in_default-attempt-2.ensures.ran.2))
-    c.in_default-attempt-3.ensures.ran
+    (sym (ap (λ x. x.left) c.in-Err-attempt-2.ensures.ran.2))
+    c.in-Err-attempt-3.ensures.ran
     (alt_next g.P5.Parser.does (AltDoes g.P6.Parser.does g.P7.Parser.does) _ _ _ _ _ _ _
-    (sym (ap (λ x. x.left) c.in_default-attempt-3.ensures.ran.2))
-    c.in_default-attempt-4.ensures.ran
+    (sym (ap (λ x. x.left) c.in-Err-attempt-3.ensures.ran.2))
+    c.in-Err-attempt-4.ensures.ran
     (alt_next g.P6.Parser.does g.P7.Parser.does _ _ _ _ _ _ _
-    (sym (ap (λ x. x.left) c.in_default-attempt-4.ensures.ran.2))
-    c.in_default-attempt-5.ensures.ran c.parse_next.ensures.ran)))))
+    (sym (ap (λ x. x.left) c.in-Err-attempt-4.ensures.ran.2))
+    c.in-Err-attempt-5.ensures.ran c.attempt_last.ensures.ran)))))
