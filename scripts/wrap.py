@@ -25,7 +25,8 @@ OPERATORS = ["→", "↔", "⊎", "×", "≡", "∙", "$", "↦", "in", "++"]
 
 
 def is_long(line):
-    return len(line) > WIDTH or len(line.encode()) > BYTES
+    # `rt fmt` leaves the imports of clauses on one line.
+    return not line.startswith("ghost use ") and (len(line) > WIDTH or len(line.encode()) > BYTES)
 
 
 def breaks_of(text):

@@ -1,9 +1,6 @@
 //! Contexts of errors that are text.
 ghost use Rattle.std.specs.Prelude.{◌≡◌};
-ghost use Rattle.stream_errors.specs.declared.str_context.StrContextValue.TheVariants.{
-  CharLiteral,
-  StringLiteral,
-};
+ghost use Rattle.stream_errors.specs.declared.str_context.StrContextValue.TheVariants.{CharLiteral, StringLiteral};
 
 use std::fmt;
 use std::fmt::{Debug, Display};
