@@ -25,8 +25,7 @@ OPERATORS = ["→", "↔", "⊎", "×", "≡", "∙", "$", "↦", "in", "++"]
 
 
 def is_long(line):
-    # `rt fmt` leaves the imports of clauses on one line.
-    return not line.startswith("ghost use ") and (len(line) > WIDTH or len(line.encode()) > BYTES)
+    return len(line) > WIDTH or len(line.encode()) > BYTES
 
 
 def breaks_of(text):
@@ -188,8 +187,10 @@ def main(names):
             with open(name, "w", encoding="utf-8") as it:
                 it.write(text)
         for number, line in enumerate(text.split("\n"), 1):
-            # The formatter keeps the closing brace of a clause on its line.
-            if is_long(line.removesuffix(" }")) and not is_fixed(line):
+            # The formatter keeps the closing brace of a clause on its line, and the import of
+            # variants whole.
+            is_kept = is_fixed(line) or ".TheVariants.{" in line
+            if is_long(line.removesuffix(" }")) and not is_kept:
                 long += 1
                 print(f"{name}:{number}: {len(line)} columns, {len(line.encode())} bytes")
     return 1 if long else 0
