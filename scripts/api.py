@@ -8,7 +8,6 @@ Run it at the top of the repository, after `rt fmt`:
 These pages are not in git: `scripts/release` generates them, to be published with the release. The
 index of all items, `docs/generated/API.md`, is in git; `scripts/registries.py` generates it. This
 script prints the pages that it changed, and each link of a comment without a target.
-`scripts/registry/pages.py` assigns items to pages; other items are on the page of their module.
 """
 from registry.api import Reference, write_api
 

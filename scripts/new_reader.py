@@ -152,7 +152,6 @@ def lay_reader(name):
     for path, mark, lines in LINES:
         put(path, mark.format(), lines.format(**words))
     put_cost(crate)
-    for script in ("registries.py", "crates_picture.py"):
-        subprocess.run([sys.executable, TOP / "scripts" / script], check=True, capture_output=True)
+    subprocess.run([sys.executable, TOP / "scripts/registries.py"], check=True, capture_output=True)
     subprocess.run(["rt", "fmt"], cwd=CRATES / crate, check=False, stdout=subprocess.DEVNULL)
     return NEXT.format(crate=crate, at=f"crates/{crate}")

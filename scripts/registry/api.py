@@ -1,5 +1,5 @@
-"""The index of all public items, `docs/generated/API.md`, and the API reference, `docs/api/`, which is not in
-git: one or more pages per module, and an index. On the pages each item has its signature, its
+"""The index of all public items, `docs/generated/API.md`, and the API reference, `docs/api/`, which is
+not in git: a page per module, and an index. On the pages each item has its signature, its
 documentation and the names of its clauses."""
 import re
 import textwrap
@@ -7,7 +7,6 @@ import textwrap
 from registry.common import CRATES, HEAD, TOP, below_winnow, in_order, write
 from registry.facade import FACADE
 from registry.items import find, module, sources
-from registry.pages import NOTES, PAGES
 from registry.parsers import header, sentence
 
 INDEX, FOLDER = TOP / "docs/generated/API.md", TOP / "docs/api"
@@ -41,6 +40,11 @@ def facade():
     return found
 
 
+def rank(module_name):
+    """A sort key of modules: those of structs come after the others, and the prelude last."""
+    return module_name == "prelude", "impls" in module_name, module_name
+
+
 class Reference:
     """The page, the modules and the anchor of each item."""
 
@@ -57,69 +61,33 @@ class Reference:
         for item, _ in self.all.values():
             if item.kind in ("struct", "enum") and all(it.kind == "part" for it in item.inside):
                 item.inside = item.inside + self.methods(item)
-        self.moved = {it for *_, names in PAGES for it in names.split() if "::" in it}
-        self.list, self.anchor = {}, {}
-        for page in [*PAGES, *self.others()]:
-            self.add(*page)
+        self.anchor = {}
+        for name in sorted(self.modules, key=rank):
+            self.add(name)
 
-    def add(self, stem, title, of, names):
-        """Adds a page if it has items."""
-        items = [*self.chosen(stem, of, names.split())]
+    def add(self, name):
+        """Adds the page of a module, with the items that no earlier page has."""
+        items = [it for it in self.modules[name] if id(it) not in self.place]
         if not items:
             return
-        self.pages[stem], self.list[stem] = items, (title, of)
-        known = {}
-        for item in [it for whole in items for it in [whole, *self.below(whole, stem)]]:
+        stem = name.replace("::", "_") or "winnow"
+        self.pages[stem], known = (name, items), {}
+        for item in [it for whole in items for it in [whole, *self.below(whole)]]:
+            self.place[id(item)] = stem
             anchor = re.sub(r"[^\w]", "", self.title(item).lower())
             again = known.get(anchor, 0)
             self.anchor[id(item)] = anchor + f"-{again}" * bool(again)
             known[anchor] = again + 1
 
-    def others(self):
-        """Pages for the items that no page names."""
-        for name in self.modules:
-            stem = name.replace("::", "_") or "winnow"
-            yield f"{stem}_others", f"More of winnow::{name}".rstrip(":"), name, "*"
-
-    def below(self, item, stem):
-        """The members of an item with their own headings on this page."""
-        own = [it for it in item.inside if it.kind != "part"]
-        return [it for it in own if self.place.get(id(it)) == stem]
+    def below(self, item):
+        """The members of an item with their own headings."""
+        return [it for it in item.inside if it.kind != "part"]
 
     def methods(self, item):
         """The members in the inherent `impl` blocks of a type."""
         own = [it for it in self.blocks if not it.trait and it.crate == item.crate]
         own = [it for it in own if re.match(r"\w+", it.type)[0] == item.name]
         return [method for it in own for method in it.inside]
-
-    def chosen(self, stem, of, names):
-        """The items of a page, whose pages it records."""
-        for name in names:
-            if name == "*":
-                kept = {it for *_, other in PAGES for it in other.split()}
-                found = [it for it in self.modules.get(of, ()) if id(it) not in self.place]
-                found = [it for it in found if it.name not in kept or names == ["*"]]
-            elif name.startswith("@"):
-                found = [it for it in self.modules.get(of, ()) if it.crate == name[1:]]
-                found = [it for it in found if id(it) not in self.place]
-            else:
-                found = self.named(of, name)
-                self.said += [] if found else [f"scripts/registry/pages.py: there is no {name}"]
-            for item in found:
-                self.place[id(item)] = stem
-                for inner in item.inside:
-                    if f"{item.name}::{inner.name}" not in self.moved:
-                        self.place[id(inner)] = stem
-                yield item
-
-    def named(self, of, name):
-        """The item or method of a name, in this module or else in the first that has it."""
-        owner, _, method = name.partition("::")
-        for module_name in [of, *self.modules]:
-            for item in self.modules.get(module_name, ()):
-                if item.name == owner:
-                    return [it for it in item.inside if it.name == method] if method else [item]
-        return []
 
     def title(self, item):
         return f"{item.owner}::{item.name}" if item.owner else item.name
@@ -246,8 +214,7 @@ class Reference:
         """The section of an item on a page."""
         text = f"{'#' * level} {self.title(item)}\n\n"
         where = self.all.get(id(item), (None, []))[1]
-        others = [it for it in where if it != self.list[stem][1]]
-        if others:
+        if [it for it in where if it != self.pages[stem][0]]:
             told = ", ".join(f"`winnow{'::' * bool(it)}{it}`" for it in where)
             text += f"In {told}.\n\n"
         head = item.whole if self.is_law(item) else item.signature
@@ -261,17 +228,13 @@ class Reference:
         text += self.example(item, stem) + (extra + "\n" if extra else "")
         return text + self.contract(item) + "\n"
 
-    def page(self, stem, title, of):
-        whole = f"winnow{'::' * bool(of)}{of}"
-        text = f"# {title}\n\nOf `{whole}`. [All items](README.md).\n\n"
-        text += wrapped(NOTES[stem]) + "\n" if stem in NOTES else ""
-        for item in self.pages[stem]:
+    def page(self, stem):
+        """The page of a module."""
+        name, items = self.pages[stem]
+        text = f"# winnow{'::' * bool(name)}{name}\n\n[All items](README.md).\n\n"
+        for item in items:
             text += self.section(item, stem, 2)
-            elsewhere = [it for it in item.inside if self.place[id(it)] != stem]
-            if elsewhere:
-                links = [self.link(it, f"`{it.name}`", stem) for it in elsewhere]
-                text += wrapped("On other pages: " + ", ".join(links) + ".") + "\n"
-            text += "".join(self.section(it, stem, 3) for it in self.below(item, stem))
+            text += "".join(self.section(it, stem, 3) for it in self.below(item))
         return text.rstrip() + "\n"
 
     def rows(self, item, link):
@@ -285,7 +248,7 @@ class Reference:
         """A line for each item, by the modules of `winnow`; structs of parsers without methods share
         one."""
         text, done = head, set()
-        for name in sorted(self.modules, key=lambda it: (it == "prelude", "impls" in it, it)):
+        for name in sorted(self.modules, key=rank):
             items = [it for it in self.modules[name] if id(it) not in done]
             done.update(id(it) for it in items)
             text += f"\n## winnow{'::' * bool(name)}{name}\n\n{about_of(name)}\n\n"
@@ -359,8 +322,8 @@ def write_index(reference):
 def write_api(reference):
     """Writes the pages, and takes away those that are none any more."""
     FOLDER.mkdir(exist_ok=True)
-    for stem, (title, of) in reference.list.items():
-        write(FOLDER / f"{stem}.md", reference.page(stem, title, of))
+    for stem in reference.pages:
+        write(FOLDER / f"{stem}.md", reference.page(stem))
     write(FOLDER / "README.md", reference.index(ABOUT_PAGES, reference.link))
     for path in FOLDER.glob("*.md"):
         if path.stem not in [*reference.pages, "README"]:
