@@ -2,28 +2,20 @@
 """Reports odd phrases in comments and documents:
 
     python3 scripts/words.py          checks the files that changed since the base commit
-    python3 scripts/words.py --base C checks the files that changed since the commit C
-    python3 scripts/words.py --all    prints the rate of each folder, and checks the whole tree
+    python3 scripts/words.py --all    checks all files together
 
 The base is the merge base with `origin/main` if there is one, otherwise the last commit. A changed
-file fails with at least two hits and more than three per 1,000 words; then each hit is printed with
-its line and what to write instead. The whole tree fails above `TREE_LIMIT`. Comments of `.rt`,
-`.antt`, `.rs`, `.c`, `.h`, `.py`, `.sh` and of scripts are read, and `.md` documents. Code spans,
-code blocks and block quotes are not read. First it tests itself on a few texts.
+file fails with at least two hits and more than three per 1,000 words; all files together fail with
+more than that. Then each hit is printed with the first line of its paragraph, and what to write
+instead. Code spans, code blocks and block quotes are not read.
 """
-import argparse
-import bisect
-import collections
-import pathlib
 import re
 import subprocess
 import sys
 
-TOP = pathlib.Path(__file__).resolve().parent.parent
-# The limits, in hits per 1,000 words: of a changed file, with the least number of hits, and of all
-# files together.
-FILE_LIMIT, FEWEST = 3, 2
-TREE_LIMIT = 3
+from registry.common import TOP, read
+
+LIMIT, FEWEST = 3, 2
 # The phrases, and what to write. `^` is the start of a paragraph; `X` stands for a code span.
 BE = r"(?:is|are|was|were|be)"
 WHAT = r"(?:^|(?<=\. ))What (?!if\b|does\b|do\b|happens\b)[^?]*?(?=[.:;,]|$)"
@@ -70,212 +62,95 @@ PHRASES = [
     (r"\b(?:each|every|a|some|no|longest|proper|of its|two) beginnings?\b|"
      r"\b(?:leaves?|left|is|are|at) an end\b", "prefix; suffix"),
 ]
-PATTERNS = [(re.compile(phrase), write) for phrase, write in PHRASES]
 # A word of each phrase, to skip paragraphs that have none.
 HEADS = re.compile(
     r"What |stand|stood|place|refus|answer|left|ask|go|went|white|line end|cut|whole|behind|"
     r"beside|memory|aside|alike| no |many|much|lse|ever|told|tell|sa[iy]|begun|pieces|fault|"
     r"lays? out|laid|hold|of which|one (?:after|behind|another)|exactly|beginning|an end"
 )
-KINDS = {".rt": "c", ".rs": "c", ".c": "c", ".h": "c", ".antt": "antt", ".py": "python",
-         ".sh": "shell", ".md": "md"}
-WORD = re.compile(r"[A-Za-z][A-Za-z'-]*")
-SPAN = re.compile(r"``.+?``|`[^`]*`")
-LINK = re.compile(r"\]\([^)]*\)|https?://\S+")
-ITEM = re.compile(r"(?:[-*|#]|\d+\.) ")
+# What precedes the text of a comment's line, by the end of the file's name; in scripts a number sign.
+C = r"""[^"']*?//[/!]?|\s*/?\*+(?!/)"""
+SHARP = r"\s*#(?!!)"
+MARKS = {
+    ".rt": C, ".rs": C, ".c": C, ".h": C, ".antt": r"(?:.*?\s)?--(?=\s|$)",
+    ".md": r"(?!\s*>|[\s|:-]*$)", ".py": SHARP, ".sh": SHARP, "": SHARP,
+}
+ITEM = re.compile(r"(?:[-*#]+|\d+\.) ")
+CODE = re.compile(r"``.+?``|`[^`]*`|(?<=\])\([^)]*\)|https?://\S+")
 
 
-def of_c(lines):
-    """Yields the comment text of each line of C, Rust or Rattle, or None."""
-    is_block = False
-    for line in lines:
-        text = line.strip()
-        if is_block or text.startswith("/*"):
-            is_block = "*/" not in text
-            yield re.sub(r"^(?:/\*+|\*+(?!/))!? ?|\*/.*$", "", text)
-        elif found := re.match(r"""[^"']*?//[/!]? ?(.*)$""", line):
-            yield found[1]
-        else:
-            yield None
-
-
-def of_antt(lines):
-    """Yields the comment text of each line of definitions and proofs, or None."""
-    for line in lines:
-        found = re.search(r"(?:^|\s)--(?:\s+(.*))?$", line)
-        yield (found[1] or "") if found else None
-
-
-def of_shell(lines):
-    """Yields the comment text of each line of a shell script, or None."""
-    for line in lines:
-        found = re.match(r"\s*#(?!!) ?(.*)$", line)
-        yield found[1] if found else None
-
-
-def of_python(lines):
-    """Yields the comment or docstring text of each line of Python, or None."""
-    is_doc, indent = False, ""
-    for line in lines:
-        text = line.strip()
-        if is_doc or text.startswith('"""'):
+def lines_of(path):
+    """Yields the text of each line of a comment or a document; an empty text for code."""
+    mark, indent, is_doc, is_code = re.compile(MARKS[path.suffix]), "", False, False
+    for line in read(path).splitlines():
+        found, text = mark.match(line), ""
+        if MARKS[path.suffix] == SHARP and (is_doc or line.lstrip().startswith('"""')):
             # Indented lines of a docstring are code.
-            is_code = is_doc and line.startswith(f"{indent}    ")
+            is_inside = is_doc and line.startswith(f"{indent}    ")
+            text = "" if is_inside else line.strip().strip('"')
             indent = indent if is_doc else line[: len(line) - len(line.lstrip())]
-            rest = text if is_doc else text[3:]
-            is_doc = '"""' not in rest
-            yield "" if is_code else rest.partition('"""')[0]
-        else:
-            found = re.match(r"\s*#(?!!) ?(.*)$", line)
-            yield found[1] if found else None
+            is_doc = is_doc != (line.count('"""') == 1)
+        elif found:
+            text = line[found.end() :].strip()
+        is_code = is_code != text.startswith(("```", "~~~"))
+        yield "" if is_code or text.startswith(("```", "~~~")) else text
 
 
-def of_md(lines):
-    """Yields the text of each line of a document, or None."""
-    for line in lines:
-        yield None if re.match(r"\s*>|[\s|:-]*$", line) else line
+def paragraphs(path):
+    """Yields the paragraphs, list items and cells of a file, each with the number of its first
+    line."""
+    part, start = "", 0
+    for number, line in enumerate([*lines_of(path), ""], 1):
+        for cell in line.strip("|").split("|") if line.startswith("|") else [line]:
+            if not line or line.startswith("|") or ITEM.match(line):
+                yield start, part
+                part = ""
+            start = start if part else number
+            part += f" {ITEM.sub('', cell.strip(), 1)}" if cell else ""
 
 
-READ = {"c": of_c, "antt": of_antt, "shell": of_shell, "python": of_python, "md": of_md}
-
-
-def paragraphs(kind, text):
-    """Yields the paragraphs of a file, each with the offsets and numbers of its lines."""
-    part, starts, is_code = "", [], False
-    for number, line in enumerate([*READ[kind](text.splitlines()), None], 1):
-        line = line.strip() if line else ""
-        is_fence = line.startswith(("```", "~~~"))
-        is_code = is_code != is_fence
-        cells = line.strip("|").split("|") if line.startswith("|") else [line]
-        for cell in cells:
-            if part and (not line or is_fence or is_code or len(cells) > 1 or ITEM.match(line)):
-                yield part, starts
-                part, starts = "", []
-            if line and not is_fence and not is_code:
-                starts.append((len(part), number))
-                part += re.sub(r"^(?:[-*#>]+|\d+\.) ", "", cell.strip()) + " "
-
-
-def plain(text):
-    """Returns the text with code spans and link targets blanked out; the length stays."""
-    text = SPAN.sub(lambda it: "X".ljust(len(it[0]), "\0"), text)
-    return LINK.sub(lambda it: "]".ljust(len(it[0]), "\0"), text)
-
-
-def hits_of(kind, text):
+def hits_of(path):
     """Returns the number of words of a file, and its hits: the line, the phrase, what to write."""
-    count, hits = 0, {}
-    for part, starts in paragraphs(kind, text):
-        padded = plain(part)
-        short = padded.replace("\0", "").rstrip()
-        count += len(WORD.findall(short))
-        if not HEADS.search(short):
-            continue
-        kept = None
-        for pattern, write in PATTERNS:
+    count, hits = 0, []
+    for number, part in paragraphs(path):
+        text = CODE.sub("X", part).strip()
+        count += len(re.findall(r"[A-Za-z][A-Za-z'-]*", text))
+        for phrase, write in PHRASES if HEADS.search(text) else ():
             # A heading of a document may begin with this word.
-            if kind == "md" and pattern.pattern == WHAT:
-                continue
-            for found in pattern.finditer(short):
-                kept = kept or [at for at, sign in enumerate(padded) if sign != "\0"]
-                number = starts[bisect.bisect(starts, (kept[found.start()], 1 << 30)) - 1][1]
-                hits[number, found.start()] = (number, found[0][:40], write)
-    return count, [hits[it] for it in sorted(hits)]
+            if path.suffix != ".md" or phrase != WHAT:
+                hits += [(number, it[0][:40], write) for it in re.finditer(phrase, text)]
+    return count, hits
 
 
-def kind_of(path):
-    """Returns the kind of a file, or None if it is not read."""
-    if path.suffix in KINDS or path.suffix:
-        return KINDS.get(path.suffix)
-    with path.open("rb") as file:
-        head = file.readline()
-    return None if not head.startswith(b"#!") else "python" if b"python" in head else "shell"
-
-
-def git(*words, default=None):
-    """Returns the lines that a git command prints. If it fails, returns `default` or exits."""
+def git(*words):
+    """Returns the lines that a git command prints."""
     ran = subprocess.run(["git", *words], cwd=TOP, capture_output=True, text=True, check=False)
-    if ran.returncode and default is None:
-        sys.exit(ran.stderr.strip())
-    return default if ran.returncode else ran.stdout.splitlines()
+    return ran.stdout.splitlines()
 
 
-def files(names):
-    """Yields the files of these names that are read, with words and hits."""
-    for name in sorted({*names}):
-        path = TOP / name
-        if path.is_file() and (kind := kind_of(path)):
-            yield name, *hits_of(kind, path.read_text(encoding="utf-8", errors="replace"))
-
-
-def rate(count, hits):
-    """Returns the hits per 1,000 words."""
-    return 1000 * hits / max(count, 1)
+def is_read(path):
+    """Returns whether a file is a document or has comments that are read."""
+    return path.is_file() and path.suffix in MARKS and (path.suffix or read(path)[:2] == "#!")
 
 
 def is_over(count, hits):
-    """Returns whether a changed file is above its limit."""
-    return hits >= FEWEST and rate(count, hits) > FILE_LIMIT
+    return len(hits) >= FEWEST and 1000 * len(hits) > LIMIT * count
 
 
-def check_changed(base):
-    """Checks the files that changed since a commit, and returns whether one fails."""
-    new = git("ls-files", "--others", "--exclude-standard")
-    is_wrong = False
-    for name, count, hits in files([*git("diff", "--name-only", base), *new]):
-        if is_over(count, len(hits)):
-            is_wrong = True
-            for number, phrase, write in hits:
-                print(f"{name}:{number}: {phrase!r}: write {write}")
-            print(f"{name}: {rate(count, len(hits)):.1f} hits per 1,000 words")
-    return is_wrong
-
-
-def check_all():
-    """Prints the rate of each folder, and returns whether the tree is above its limit."""
-    folders = collections.defaultdict(lambda: [0, 0])
-    for name, count, hits in files(git("ls-files")):
-        parts = name.split("/")
-        depth = 2 if parts[0] in ("crates", "tests", "bindings") else 1
-        for folder in ("/".join(parts[:depth]) if len(parts) > 1 else ".", "all files"):
-            folders[folder][0] += count
-            folders[folder][1] += len(hits)
-    for folder, (count, hits) in sorted(folders.items(), key=lambda it: rate(*it[1])):
-        print(f"{rate(count, hits):6.1f} per 1,000 words  {hits:6} in {count:7}  {folder}")
-    whole = rate(*folders["all files"])
-    if whole > TREE_LIMIT:
-        print(f"{whole:.1f} hits per 1,000 words in all files, more than {TREE_LIMIT}")
-    return whole > TREE_LIMIT
-
-
-def selftest():
-    """Exits with an error if a text with three hits passes, or if a plain text has hits."""
-    odd = ["The rest behind it comes first.", "It answers `None`", "where none is left."]
-    fine = ["Returns the rest after a line ending.", "If no input remains, it", "stops: `behind`."]
-    marks = {"c": "/// ", "antt": "-- ", "python": "# ", "shell": "# ", "md": ""}
-    for kind, mark in marks.items():
-        texts = ["\n".join(mark + line for line in lines) for lines in (odd, fine)]
-        (count, hits), (_, others) = (hits_of(kind, it) for it in texts)
-        if [it[0] for it in hits] != [1, 2, 3] or not is_over(count, 3) or others:
-            sys.exit(f"scripts/words.py: wrong hits in a text of the kind {kind}: {hits} {others}")
-    quoted = "> It goes on.\n\n```text\nbehind\n```\n"
-    if hits_of("md", quoted)[1] or hits_of("c", "/// ```\n/// behind\n/// ```\n")[1]:
-        sys.exit("scripts/words.py: hits in a quotation or in code")
-
-
-def main():
-    parser = argparse.ArgumentParser(
-        description=__doc__, formatter_class=argparse.RawDescriptionHelpFormatter
-    )
-    parser.add_argument("--all", action="store_true")
-    parser.add_argument("--base", metavar="C")
-    asked = parser.parse_args()
-    selftest()
-    if asked.all:
-        return 1 if check_all() else 0
-    base = asked.base or git("merge-base", "HEAD", "origin/main", default=["HEAD"])[0]
-    return 1 if check_changed(base) else 0
+def main(words):
+    base = (git("merge-base", "HEAD", "origin/main") or ["HEAD"])[0]
+    names = git("ls-files") if words else git("diff", "--name-only", base)
+    names += git("ls-files", "--others", "--exclude-standard")
+    found = {it: hits_of(TOP / it) for it in sorted({*names}) if is_read(TOP / it)}
+    if words:
+        whole = sum(it[0] for it in found.values()), sum((it[1] for it in found.values()), [])
+        print(f"{len(whole[1])} odd phrases in {whole[0]} words")
+        found = found if is_over(*whole) else {}
+    wrong = {name: hits for name, (count, hits) in found.items() if is_over(count, hits)}
+    for name, hits in wrong.items():
+        print(*(f"{name}:{number}: {phrase!r}: write {write}" for number, phrase, write in hits), sep="\n")
+    return 1 if wrong else 0
 
 
 if __name__ == "__main__":
-    sys.exit(main())
+    sys.exit(main(sys.argv[1:]))
