@@ -13,6 +13,7 @@ such a rejection only means that it is stale. A rejection means more if the prov
 goal that it proved by `search` before, or finds values for which a goal is false. `Refusal`
 distinguishes the two.
 """
+import contextlib
 import os
 import re
 import shutil
@@ -278,28 +279,31 @@ class Trial:
             link_all(self.seed, over)
             return self.checked(texts, only, over)
 
-    def run(self, start, calls):
-        """Tries all edits, and returns the names of those that were not rejected. `start` is the
-        incremental folder of an earlier check, or None. `calls` maps each of the crate's functions
-        to those that it calls, if the unchanged functions are known to be proved; otherwise it is
-        None."""
-        ready = []
+    @contextlib.contextmanager
+    def begun(self, start, calls):
+        """Prepares the check of the unchanged crate, and gives the edits that can be tried. `start`
+        is the incremental folder of an earlier check, or None. `calls` maps each of the crate's
+        functions to those that it calls, if the unchanged functions are known to be proved;
+        otherwise it is None."""
+        ready = [it for it in self.edits if it.find(self.folder)]
         for edit in self.edits:
-            if edit.find(self.folder):
-                ready.append(edit)
-            else:
+            if edit not in ready:
                 self.miss(edit, "it cannot be applied")
         with tempfile.TemporaryDirectory(prefix="seed-") as self.seed:
             if start:
                 link_all(start, self.seed)
             self.is_whole, self.calls = False, calls
             names = self.as_they_stand(ready) if calls is None else [*calls]
-            if names is None:
-                for edit in ready:
-                    self.miss(edit, "the unchanged crate is not proved")
-                return self.missed
             for edit in ready:
-                edit.take_names(names)
+                if names is None:
+                    self.miss(edit, "the unchanged crate is not proved")
+                else:
+                    edit.take_names(names)
+            yield ready if names is not None else []
+
+    def run(self, start, calls):
+        """Tries all edits, and returns the names of those that were not rejected."""
+        with self.begun(start, calls) as ready:
             self.in_groups(ready)
         return self.missed
 

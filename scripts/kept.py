@@ -34,18 +34,21 @@ def sum_once(rt):
 def give(rt, crates):
     """Copies the kept proofs of these crates, in any order, and returns the names of those that are
     then built."""
-    if not hasattr(rt, "Kept"):
-        return set()
-    store, given = rt.Kept([*crates]), set()
+    store, given = rt.Kept([*crates]) if hasattr(rt, "Kept") else None, set()
     for it in sorted(crates, key=lambda it: len(it.below())):
         if not {dep.name for dep in it.below()} <= given:
             continue
         if not it.is_built():
+            if not store:
+                continue
             # The kit drops the kept proof of a crate if files of another build are next to it.
             shutil.rmtree(pathlib.Path(it.folder) / "out/rlib", ignore_errors=True)
             if not store.give(it, False, store.key(it)):
                 continue
-        store.is_built(it)
+            stamp = pathlib.Path(it.folder) / "out/rlib/stamp"
+            stamp.write_text(it.stamp(), encoding="utf-8")
+        if store:
+            store.is_built(it)
         given.add(it.name)
     return given
 
@@ -61,12 +64,7 @@ def give_all(top, names=None):
     if all(it.is_built() for it in crates):
         return crates, {it.name for it in crates}
     sum_once(rt)
-    given = give(rt, crates)
-    for it in crates:
-        if it.name in given:
-            stamp = pathlib.Path(it.folder) / "out/rlib/stamp"
-            stamp.write_text(it.stamp(), encoding="utf-8")
-    return crates, given
+    return crates, give(rt, crates)
 
 
 def main(top):

@@ -8,14 +8,18 @@ import shutil
 import sys
 
 
-def toolchain():
-    """Returns the module `rt` of the kit whose command is on the path."""
-    path = os.path.realpath(shutil.which("rt") or sys.exit("there is no command rt"))
-    loader = importlib.machinery.SourceFileLoader("rt_module", path)
-    made = importlib.util.module_from_spec(importlib.util.spec_from_loader("rt_module", loader))
-    sys.modules["rt_module"] = made
+def loaded(name, path):
+    """Returns a script as a module of this name."""
+    loader = importlib.machinery.SourceFileLoader(name, str(path))
+    made = importlib.util.module_from_spec(importlib.util.spec_from_loader(name, loader))
+    sys.modules[name] = made
     loader.exec_module(made)
     return made
+
+
+def toolchain():
+    """Returns the module `rt` of the kit whose command is on the path."""
+    return loaded("rt_module", os.path.realpath(shutil.which("rt") or sys.exit("there is no command rt")))
 
 
 if __name__ == "__main__":

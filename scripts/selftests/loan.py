@@ -1,5 +1,4 @@
-#!/usr/bin/env python3
-"""Tests the archives of proofs of `scripts/vendor --proofs`: `scripts/loan_selftest`.
+"""Tests the archives of proofs of `scripts/vendor --proofs`.
 
 Over an invented kit and two invented crates, a copy must take the proofs of an archive if the
 sources, the archive's files and the kit are the same, and otherwise not. It proves nothing, and
@@ -9,14 +8,10 @@ import contextlib
 import io
 import pathlib
 import shutil
-import sys
 import tarfile
-import tempfile
 import types
 
-sys.dont_write_bytecode = True
-sys.path.insert(0, str(pathlib.Path(__file__).resolve().parent))
-import vendor_loan  # noqa: E402
+import vendor_loan
 
 NAMES = ("low", "high")
 
@@ -107,15 +102,3 @@ def faults(room):
     with contextlib.suppress(ValueError):
         vendor_loan.write(room / "origin", NAMES, archive)
         yield "an archive is written without a proof"
-
-
-def main():
-    with tempfile.TemporaryDirectory(prefix="loan-selftest-") as folder:
-        found = list(faults(pathlib.Path(folder)))
-    print(*found, sep="\n", end="\n" if found else "")
-    print(f"{len(found)} errors of archives of proofs")
-    return 1 if found else 0
-
-
-if __name__ == "__main__":
-    sys.exit(main())

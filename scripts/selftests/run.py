@@ -1,17 +1,14 @@
-#!/usr/bin/env python3
-"""Tests `./run`, which `scripts/vendor` copies: `scripts/run_selftest`.
+"""Tests `./run`, which `scripts/vendor` copies.
 
 In a temporary repository with one program that uses only std, `./run` must build once, and again
 after an edit; pass arguments, standard input and the folder to the program; return its exit code;
 stop at a panic; and report errors. It takes half a minute.
 """
-import pathlib
 import shutil
 import subprocess
-import sys
-import tempfile
 
-TOP = pathlib.Path(__file__).resolve().parent.parent
+from registry.common import TOP
+
 PROGRAM = """//! Prints its input, and the file that its argument names.
 #![tactic(auto)]
 
@@ -68,7 +65,7 @@ def ran(room, words, given=""):
 
 
 def faults(room):
-    """Returns descriptions of the errors."""
+    lay(room)
     for words, given, wanted, error in RUNS:
         found, said = ran(room, words, given)
         if found != wanted or (error or "") not in said or (error is None and said):
@@ -82,16 +79,3 @@ def faults(room):
     found, said = ran(room, ["mine"])
     if found != (3, "") or BUILDS not in said:
         yield f"a program that was changed: {found} {said}"
-
-
-def main():
-    with tempfile.TemporaryDirectory(prefix="run-selftest-") as folder:
-        lay(pathlib.Path(folder))
-        found = list(faults(pathlib.Path(folder)))
-    print(*found, sep="\n", end="\n" if found else "")
-    print(f"{len(found)} errors of ./run")
-    return 1 if found else 0
-
-
-if __name__ == "__main__":
-    sys.exit(main())

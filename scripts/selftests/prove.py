@@ -1,10 +1,9 @@
-#!/usr/bin/env python3
 """Tests the messages and the queue of `./prove`, which `scripts/vendor` copies, and the names that
-`./check` finds: `scripts/prove_selftest`.
+`./check` finds.
 
 From recorded output of the prover, it must print the function, the goal and the sentence that
 matters, and find imports that nothing uses. For each wrong variant of FIRST_PROOF's parser in
-`scripts/prove_samples`, the first five lines must name the function, the clause and the cause. While
+`prove_samples`, the first five lines must name the function, the clause and the cause. While
 another `./prove` runs, it must print the reason why it waits.
 
 A script that prints recorded lines takes the prover's place. If the lines name functions that are not
@@ -16,22 +15,20 @@ takes half a minute.
 """
 import contextlib
 import fcntl
-import importlib.machinery
-import importlib.util
 import io
 import json
-import pathlib
 import re
 import subprocess
 import sys
-import tempfile
 import time
 from types import SimpleNamespace
 
-TOP = pathlib.Path(__file__).resolve().parent.parent
+from registry.common import TOP
+from selftests.common import SCRIPTS, module
+
 # Each file has recorded output of the prover, below a line that describes the variant and three
 # with what must be named.
-SAMPLES = TOP / "scripts/prove_samples"
+SAMPLES = SCRIPTS / "selftests/prove_samples"
 FIRST = 5
 # In the place of the prover: prints each line of a file; at `keep F` it keeps a function's proof
 # instead, at `wait N` it waits, and at `stage S` that stage has ended.
@@ -128,15 +125,6 @@ GOALS = {
     "read_all-requires-clause-premise": "the clause `requires premise` of the call `read_all`",
     "measure": "",
 }
-
-
-def module(name):
-    """Returns a script as a module."""
-    sys.dont_write_bytecode = True
-    loader = importlib.machinery.SourceFileLoader(name, str(TOP / "scripts" / name))
-    made = importlib.util.module_from_spec(importlib.util.spec_from_loader(name, loader))
-    loader.exec_module(made)
-    return made
 
 
 def told(prove, crate, lines):
@@ -269,19 +257,16 @@ def faults_of_names():
         yield f"./check finds {found}"
 
 
-def main():
+def faults(room):
+    """Returns descriptions of the errors."""
     prove = module("prove")
-    with tempfile.TemporaryDirectory(prefix="prove-selftest-") as folder:
-        room = pathlib.Path(folder)
-        found = [*faults_of_messages(prove), *faults_of_samples(prove)]
-        found += faults_of_imports(prove, room)
-        found += faults_of_waiting(prove, room)
-        found += [*faults_of_progress(prove, room), *faults_of_uncovered(prove, room)]
-        found += [*faults_of_rows(prove), *faults_of_kept(prove, room), *faults_of_names()]
-    print(*found, sep="\n", end="\n" if found else "")
-    print(f"{len(found)} errors of ./prove")
-    return 1 if found else 0
-
-
-if __name__ == "__main__":
-    sys.exit(main())
+    yield from faults_of_messages(prove)
+    yield from faults_of_samples(prove)
+    yield from faults_of_rows(prove)
+    yield from faults_of_names()
+    of_rooms = (
+        faults_of_imports, faults_of_waiting, faults_of_progress, faults_of_uncovered,
+        faults_of_kept,
+    )
+    for it in of_rooms:
+        yield from it(prove, room)

@@ -1,5 +1,4 @@
-#!/usr/bin/env python3
-"""Tests the copies of `scripts/vendor`: `scripts/vendor_selftest`.
+"""Tests the copies of `scripts/vendor`.
 
 It copies the library with the parsers of two formats into a temporary folder, changes the copy to
 an older state, and updates it. Each file that differs must be listed, changes of the user must be
@@ -7,18 +6,14 @@ reported, and the copy must then be equal to a new one. It runs and proves nothi
 ten seconds. `scripts/readme` runs programs over copies.
 """
 import hashlib
-import pathlib
-import subprocess
-import sys
-import tempfile
 
-sys.path.insert(0, str(pathlib.Path(__file__).resolve().parent))
-from formats import FORMATS, lines_of, minutes_of  # noqa: E402
-from laid import library  # noqa: E402
-from parts import PARTS, taken  # noqa: E402
-from registry.common import TOP, contents, read  # noqa: E402
-from registry.readers import BRIEF  # noqa: E402
-from vendor_beside import costs, taken_names  # noqa: E402
+from formats import FORMATS, lines_of, minutes_of
+from laid import library
+from parts import PARTS, taken
+from registry.common import TOP, contents, read
+from registry.readers import BRIEF
+from selftests.common import python
+from vendor_beside import costs, taken_names
 
 WITH = ["--with", "json,csv"]
 # The differences of the older state: a new file, a removed file, a changed file, and a removed
@@ -38,11 +33,7 @@ TOLD = [
 
 def vendor(*words):
     """Runs `scripts/vendor`, and returns its status and output."""
-    ran = subprocess.run(
-        [sys.executable, str(TOP / "scripts/vendor"), "--no-proofs", *map(str, words)],
-        stdout=subprocess.PIPE, stderr=subprocess.STDOUT, text=True, check=False,
-    )
-    return ran.returncode, ran.stdout
+    return python("vendor", "--no-proofs", *words)
 
 
 def put(room, name, text):
@@ -120,6 +111,7 @@ def faults_of_update(room, new):
 
 def faults(folder):
     """Returns descriptions of the errors."""
+    yield from faults_of_names()
     room, listed = folder / "copy", [*library(), *lines_of(["csv", "json"])]
     status, said = vendor(*WITH, room)
     names = [it.partition(":")[0] for it in read(room / "crates.txt").splitlines()[1:]]
@@ -136,15 +128,3 @@ def faults(folder):
         status, said = vendor(*words, folder / "none")
         if not status or "error: " not in said or (folder / "none").exists():
             yield f"{words}: {said}"
-
-
-def main():
-    with tempfile.TemporaryDirectory(prefix="vendor-") as folder:
-        found = [*faults_of_names(), *faults(pathlib.Path(folder))]
-    print(*found, sep="\n", end="\n" if found else "")
-    print(f"{len(found)} errors of copies")
-    return 1 if found else 0
-
-
-if __name__ == "__main__":
-    sys.exit(main())

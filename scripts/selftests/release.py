@@ -1,16 +1,9 @@
-#!/usr/bin/env python3
-"""Tests `scripts/release` in a copy of the files that it reads: `scripts/release_selftest`. It
-releases nothing, and takes some seconds."""
-import pathlib
-import re
+"""Tests `scripts/release` in a copy of the files that it reads. It releases nothing, and takes some
+seconds."""
 import shutil
-import subprocess
-import sys
-import tempfile
 
-sys.dont_write_bytecode = True
-sys.path.insert(0, str(pathlib.Path(__file__).resolve().parent))
-from registry.common import TOP, contents, crates, read  # noqa: E402
+from registry.common import TOP, contents, crates, read
+from selftests.common import python
 
 FILES = [
     "scripts/release",
@@ -36,8 +29,7 @@ def items(text):
 
 def release(room, *words):
     """Returns whether the script succeeds."""
-    how = {"stdout": subprocess.DEVNULL, "stderr": subprocess.DEVNULL, "check": False}
-    return not subprocess.run([sys.executable, room / "scripts/release", *words], **how).returncode
+    return not python("release", *words, folder=room)[0]
 
 
 def faults(room):
@@ -82,15 +74,3 @@ def faults(room):
     (room / "VERSION").write_text(f"{new}\n", encoding="utf-8")
     if release(room, "--check"):
         yield "VERSION and CHANGELOG.md may have different versions"
-
-
-def main():
-    with tempfile.TemporaryDirectory(prefix="release-") as folder:
-        found = list(faults(pathlib.Path(folder)))
-    print(*found, sep="\n", end="\n" if found else "")
-    print(f"{len(found)} errors of releases")
-    return 1 if found else 0
-
-
-if __name__ == "__main__":
-    sys.exit(main())

@@ -1,5 +1,4 @@
-#!/usr/bin/env python3
-"""Checks that files created by `./x new` pass the checks: `scripts/new_selftest`.
+"""Checks that files created by `./x new` pass the checks.
 
 In a copy of the repository it creates a leaf and a combinator under five names each and a reader
 under three, including a short name and one of half a line. The checks of lines, documentation,
@@ -7,13 +6,11 @@ names, pages and citations must then pass there, and generated files and formatt
 date. Names that exist already or are invalid must be rejected, with nothing written. It proves
 nothing, and takes about ten seconds.
 """
-import pathlib
 import shutil
 import subprocess
-import sys
-import tempfile
 
 from registry.common import TOP, contents
+from selftests.common import python, ran
 
 LEAF = "crates/winnow_token/src/token.rt"
 COMBINATOR = "crates/winnow_comb/src/combinator/basic.rt"
@@ -43,19 +40,6 @@ REFUSED = [
 CHECKS = ["wrap.py", "lint.py", "by_name.py", "cited.py", "pages.py"]
 
 
-def run(room, *words, folder=""):
-    """Runs a command in the copy, and returns its status and output."""
-    ran = subprocess.run(
-        words, cwd=room / folder, stdout=subprocess.PIPE, stderr=subprocess.STDOUT, text=True,
-        check=False,
-    )
-    return ran.returncode, ran.stdout.strip()
-
-
-def python(room, script, *words):
-    return run(room, sys.executable, f"scripts/{script}", *words)
-
-
 def lay(room):
     """Copies the files that git tracks, and new ones, into a folder."""
     listed = ["git", "ls-files", "-z", "--cached", "--others", "--exclude-standard"]
@@ -72,41 +56,26 @@ def differing(old, new):
 
 def faults(room):
     """Returns descriptions of the errors."""
+    lay(room)
     for words, names in NAMES.items():
         for name in names:
-            status, said = python(room, "new.py", *words, name)
+            status, said = python("new.py", *words, name, folder=room)
             if status:
                 yield f"./x new {' '.join(words)} {name}: {said}"
     laid = contents(room)
     for words in REFUSED:
-        status, said = python(room, "new.py", *words)
+        status, said = python("new.py", *words, folder=room)
         if not status or "\n" in said and "x" not in words:
             yield f"./x new {' '.join(words)} is not rejected: {said}"
     for name in differing(laid, contents(room)):
         yield f"{name} was written though the name was rejected"
     for check in CHECKS:
-        status, said = python(room, check)
+        status, said = python(check, folder=room)
         if status:
             yield f"scripts/{check}: {said}"
-    python(room, "registries.py")
-    python(room, "crates_picture.py")
+    python("registries.py", folder=room)
     readers = [f"format_{name}" for name in NAMES[("reader",)]]
     for crate in ("winnow", "winnow_comb", "winnow_token", *readers):
-        run(room, "rt", "fmt", folder=f"crates/{crate}")
+        ran("rt", "fmt", folder=room / "crates" / crate)
     for name in differing(laid, contents(room)):
         yield f"{name} is out of date"
-
-
-def main():
-    with tempfile.TemporaryDirectory(prefix="new-") as folder:
-        room = pathlib.Path(folder)
-        lay(room)
-        found = list(faults(room))
-    print(*found, sep="\n", end="\n" if found else "")
-    laid = sum(map(len, NAMES.values()))
-    print(f"{laid} parsers and readers created, {len(REFUSED)} names rejected, {len(found)} errors")
-    return 1 if found else 0
-
-
-if __name__ == "__main__":
-    sys.exit(main())
