@@ -1,4 +1,5 @@
 """Functions that the generators of the families share."""
+import re
 import textwrap
 
 import wrap
@@ -12,6 +13,24 @@ NEVER_TAKES = "λ is never. absurd never"
 
 def upto(n):
     return range(1, n + 1)
+
+
+# A part of a template for each member, and what is between the members, by the sign after its bar.
+EACH = re.compile(r"<<(-?)(.*?)(?:\|(.))?>>", re.DOTALL)
+BETWEEN = {None: " ", ",": ", ", ";": ",\n    ", ".": "\n", "×": " × ", "→": " → "}
+
+
+def filled(text, n):
+    """Returns a template for n members: each part in `<<` and `>>` is repeated for the members, or
+    after `<<-` for all but the last, with the member's number for `#`, its index in the tuple for
+    `@` and its ordinal for `$`."""
+
+    def each(found):
+        forms = (found[2].replace("$", ORDINAL[k]) for k in upto(n - len(found[1])))
+        numbered = (it.replace("#", str(k)).replace("@", str(k - 1)) for k, it in enumerate(forms, 1))
+        return BETWEEN[found[3]].join(numbered)
+
+    return EACH.sub(each, text)
 
 
 def tuple_type(parts):
