@@ -1,34 +1,19 @@
 """Compiles a crate's exports without proofs, for `unproved.py` and `bindings/build --unproved`.
 
-`rt try` compiles a program that calls each export, and its LLVM module is saved. The run-time checks of
-`rt try` are removed from the module, and the attributes that it omits are added. Then the toolchain's
-clang compiles it with the flags of a proved library.
+By the functions of `scripts/run`, `rt try` compiles a program that calls each export, and its LLVM module
+is saved. The run-time checks of `rt try` are removed from the module, and the attributes that it omits
+are added. Then the toolchain's clang compiles it with the flags of a proved library.
 """
-import os
 import pathlib
 import re
-import shutil
 import subprocess
 import sys
-import tempfile
 
 sys.path.insert(0, str(pathlib.Path(__file__).resolve().parent.parent / "scripts"))
 from inlined import Inlined  # noqa: E402
-from toolchain import toolchain  # noqa: E402
+from registry.common import TOP  # noqa: E402
+from toolchain import loaded  # noqa: E402
 
-# Replaces clang: it saves the module that `rt try` instruments, and stops there.
-CLANG = """#!/bin/sh
-case "$*" in
-*-fsanitize=address*) mv module.bc '{kept}'; exit 1 ;;
-esac
-exec '{clang}' "$@"
-"""
-LIKE_RT = (
-    "-mllvm -no-trap-after-noreturn -ffunction-sections -fdata-sections -mllvm -trap-unreachable "
-    "-mllvm -no-x86-call-frame-opt -mllvm -disable-machine-licm "
-    "-mllvm -disable-postra-machine-licm -mllvm -sink-common-insts=false --no-default-config "
-    "-no-canonical-prefixes -fPIC -O3"
-).split()
 ADDED = re.compile(
     r'  call void @"rattle-(?:llvm-checks|try)::[^"]*"\('
     r"|  call void @llvm\.memset\.p0\.i64\(ptr %r\d+, i8 -86, "
@@ -45,39 +30,6 @@ DEFINED = re.compile(r'define (\w+ )?(.*?)@(?:"([^"]*)"|(\w+))\(')
 GROUPS = {"always": "#90", "never": "#91", "": "#92"}
 KINDS = {"always": "alwaysinline ", "never": "noinline ", "": ""}
 ATTRIBUTES = 'nounwind "probe-stack"="inline-asm" "stack-probe-size"="3072" "target-cpu"="{cpu}"'
-
-
-def keep_module(rt, room, crate, kept):
-    """Runs `rt try` for a crate's program, and saves its LLVM module in the file `kept`."""
-    theirs, ours = pathlib.Path(rt.rtlib.KIT) / "toolchain", room / "toolchain"
-    shutil.rmtree(ours, ignore_errors=True)
-    (ours / "bin").mkdir(parents=True)
-    (ours / "lib").symlink_to(theirs / "lib")
-    for name in ("ld.lld", "llvm-ar", "rattle-x64"):
-        (ours / "bin" / name).symlink_to(theirs / "bin" / name)
-    clang = ours / "bin/clang"
-    clang.write_text(CLANG.format(kept=kept, clang=theirs / "bin/clang"), encoding="utf-8")
-    clang.chmod(0o755)
-    begin = subprocess.Popen
-
-    def begun(words, *given, **named):
-        if isinstance(words, list) and "--toolchain" in words:
-            words = list(words)
-            words[words.index("--toolchain") + 1] = str(ours)
-            words[words.index("--steps") + 1] = "1"
-        return begin(words, *given, **named)
-
-    rt.rtlib.subprocess.Popen = begun
-    rt.rtlib.RATTLE = shutil.which("true")
-    os.chdir(room / f"crates/{crate}_program")
-    kept.unlink(missing_ok=True)
-    with tempfile.TemporaryFile("w+", errors="replace") as said:
-        sys.stderr, stderr = said, sys.stderr
-        rt.main(["try"])
-        sys.stderr, rt.rtlib.subprocess.Popen = stderr, begin
-        said.seek(0)
-        if not kept.is_file():
-            sys.exit(said.read())
 
 
 def as_proved(lines, inlined):
@@ -111,24 +63,19 @@ def with_moves(text):
 def compiled(room, cpu, crate, named):
     """Compiles a crate in `room` into `room/libCRATE.a`, from its program `CRATE_program`, which calls
     each export. `named` has the LLVM functions with the public names of the exports."""
-    rt = toolchain()
-    kit = pathlib.Path(rt.rtlib.KIT)
-    bin_folder, kept, text = kit / "toolchain/bin", room / "kept.bc", room / "kept.ll"
-    keep_module(rt, room, crate, kept)
-    clang = [bin_folder / "clang", "--target=x86_64-unknown-linux-gnu", "-x", "ir"]
-    plain = ["-S", "-emit-llvm", "-Xclang", "-disable-llvm-passes"]
-    subprocess.run([*clang, *plain, "-o", text, kept], check=True)
+    run = loaded("run_script", TOP / "scripts/run")
+    lib = run.toolchain()
+    program = next(it for it in lib.crates_below(str(room)) if it.name == f"{crate}_program")
+    kept, wrong = run.keep_module(lib, program, room)
+    kit, text = pathlib.Path(lib.KIT), room / "as_proved.ll"
+    lines = run.as_text(lib, kept or sys.exit(wrong)).splitlines(keepends=True)
     crates = [(it.name, it / "src") for it in (room / "crates").iterdir()]
     crates += [(it.name, it / "src") for it in (kit / "rattle").iterdir()]
-    with open(text, encoding="utf-8") as lines:
-        made = list(as_proved(lines, Inlined(crates)))
-    words = ATTRIBUTES.format(cpu=cpu)
-    made += named
+    made = [*as_proved(lines, Inlined(crates)), *named]
     for said, group in GROUPS.items():
-        made.append(f"attributes {group} = {{ {KINDS[said]}{words} }}\n")
+        made.append(f"attributes {group} = {{ {KINDS[said]}{ATTRIBUTES.format(cpu=cpu)} }}\n")
     text.write_text(with_moves("".join(made)), encoding="utf-8")
-    made_here = ["-c", "-o", room / f"{crate}.o", text]
-    subprocess.run([*clang, *LIKE_RT, f"-march={cpu}", *made_here], check=True)
-    library = room / f"lib{crate}.a"
+    compiled_to, library = room / f"{crate}.o", room / f"lib{crate}.a"
+    run.compile_module(lib, text, compiled_to, cpu)
     library.unlink(missing_ok=True)
-    subprocess.run([bin_folder / "llvm-ar", "rcs", library, room / f"{crate}.o"], check=True)
+    subprocess.run([kit / "toolchain/bin/llvm-ar", "rcs", library, compiled_to], check=True)

@@ -3,7 +3,6 @@
 It builds a program that calls each export with `rt try`, like `bench/unproved.py`. The code is similar
 to that of a proved build, but may differ.
 """
-import os
 import pathlib
 import re
 import shutil
@@ -137,10 +136,9 @@ def make(archive):
     _, _, structs, exports = items()
     structs, where = {it.name: it for it in structs}, modules()
     with tempfile.TemporaryDirectory(prefix="unproved-") as made:
-        room, here = pathlib.Path(made), pathlib.Path.cwd()
+        room = pathlib.Path(made)
         lay(room, exports, structs, where)
         named = [wrapper(it, where[f"exported_{it.name}"]) for it in exports]
         compiled(room, CPU, "exported", named)
         archive.parent.mkdir(parents=True, exist_ok=True)
         shutil.copyfile(room / "libexported.a", archive)
-        os.chdir(here)
