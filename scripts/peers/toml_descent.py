@@ -1,5 +1,4 @@
-"""The offset of the first error in a TOML 1.0 text, by recursive descent, and a document that
-begins with the text before it.
+"""The offset of the first error in a TOML 1.0 text, by recursive descent.
 
 The grammar is that of toml.abnf 1.0, with integers of 64 bits and days that the month has. Keys are
 not compared.
@@ -21,12 +20,10 @@ def is_inside(c):
 
 
 class Reader:
-    """A recursive-descent parser of TOML, with one character of lookahead. With `completing`, the
-    end of the text is followed by the first of the characters that may follow, so that the text
-    becomes a document."""
+    """A recursive-descent parser of TOML, with one character of lookahead."""
 
-    def __init__(self, text, completing=False):
-        self.text, self.at, self.completing = text, 0, completing
+    def __init__(self, text):
+        self.text, self.at = text, 0
 
     def here(self):
         return self.text[self.at : self.at + 1]
@@ -36,8 +33,6 @@ class Reader:
 
     def take(self, among):
         """Returns the next character, which must be one of `among`."""
-        if self.completing and not self.here():
-            self.text += among[0]
         if not self.is_at(among):
             raise Stop(self.at)
         self.at += 1
@@ -135,7 +130,7 @@ class Reader:
 
     def array(self):
         self.gap()
-        while not self.is_at("]") and (self.here() or not self.completing):
+        while not self.is_at("]"):
             self.value()
             self.gap()
             if not self.is_at(","):
@@ -146,8 +141,8 @@ class Reader:
 
     def inline_table(self):
         self.blanks()
-        if self.is_at("}") or not self.here() and self.completing:
-            self.take("}")
+        if self.is_at("}"):
+            self.at += 1
             return
         while True:
             self.pair()
@@ -168,7 +163,7 @@ class Reader:
         return self.long_string(mark)
 
     def string(self, mark):
-        while not self.is_at(mark) and (self.here() or not self.completing):
+        while not self.is_at(mark):
             c = self.here()
             if not c or not is_inside(c):
                 raise Stop(self.at)
@@ -182,7 +177,7 @@ class Reader:
             if self.is_at("\r\n"):
                 self.line_ending()
                 continue
-            if self.is_at(mark) or not self.here() and self.completing:
+            if self.is_at(mark):
                 if self.closing(mark):
                     return
                 continue
@@ -197,8 +192,8 @@ class Reader:
         """Parses one to five marks, and returns whether the string ends: three end it, and two more
         may belong to it."""
         count = 0
-        while count < 5 and (self.is_at(mark) or not self.here() and self.completing and count < 3):
-            self.take(mark)
+        while count < 5 and self.is_at(mark):
+            self.at += 1
             count += 1
         return count >= 3
 
@@ -346,10 +341,3 @@ def place(text):
     except Stop as stop:
         return stop.args[0]
     return None
-
-
-def completed(text):
-    """Returns a document that begins with a text that can be continued."""
-    reader = Reader(text, completing=True)
-    reader.document()
-    return reader.text

@@ -1,17 +1,16 @@
 """The offsets of errors in TOML, by a parser of `toml_descent.py` and by Python's `tomllib`.
 
 `format_toml_document` gives the first offset at which no document continues. The parser must give
-the same one. It also completes the text before it, and `tomllib` must accept the result.
-Of one text in 50, the part up to the character at the offset is completed in many ways, none of
-which `tomllib` may accept. `tomllib` stops at a key that is defined twice, so it does not judge
-texts with one.
+the same one. The text before it is completed in many ways, one of which `tomllib` must accept. Of
+one text in 50, the part up to the character at the offset is completed so too, and `tomllib` may
+accept none. It stops at a key that is defined twice, so it does not judge texts with one.
 """
 import re
 import tomllib
 import zlib
 
 from peers.harness import often_changed
-from peers.toml_descent import completed, place
+from peers.toml_descent import place
 from peers.toml_texts import PARTS, texts
 
 # A complete string, or a comment.
@@ -80,16 +79,18 @@ def is_read(text):
         return None if EARLIER.match(str(error)) else False
 
 
-def completion(text):
-    """Returns the end of a document that begins with a text, or `None`. Its brackets are those that
-    are open, without the first, or one."""
-    first = closing(text)
+def is_begun(text):
+    """Returns whether `tomllib` accepts a completion of a text, or `None` if it stops at an earlier
+    key. The brackets at the end are those that are open, without the first, or one."""
+    first, told = closing(text), False
     for end in dict.fromkeys((first, first[1:], "", "]", "}")):
         for own in OWN:
             for value in ("", "=0"):
-                if is_read(text + own + value + end):
-                    return own + value + end
-    return None
+                found = is_read(text + own + value + end)
+                if found:
+                    return True
+                told = None if found is None else told
+    return told
 
 
 def is_searched(text):
@@ -107,12 +108,11 @@ def judge(row, answer, theirs):
         return False
     if not is_document and offset != str(len(front.encode())):
         return False
-    whole = completed(front)
-    if is_read(whole) is False:
-        return "a second of 60, or a year of 0" if MORE.search(whole) else False
+    if is_begun(front) is False:
+        return "a second of 60, or a year of 0" if MORE.search(front) else False
     if is_document or at == len(text):
         return is_document or not theirs
-    return not theirs and (not is_searched(text) or completion(text[: at + 1]) is None)
+    return not theirs and not (is_searched(text) and is_begun(text[: at + 1]))
 
 
 def rows(rng, count):
