@@ -1,4 +1,5 @@
 """Common parts of the generators: paths of items, and the marks of generated parts."""
+import os
 import pathlib
 import re
 
@@ -36,6 +37,13 @@ def by_hand(path, comment, end=""):
 
 def has_mark(path):
     return FROM_HERE in read(path)
+
+
+def side_by_side(needs):
+    """How many processes may run in parallel that need these bytes of memory each."""
+    said = read(pathlib.Path("/proc/meminfo"))
+    free = 1024 * int(re.search(r"^MemAvailable:\s+(\d+)", said, re.MULTILINE)[1])
+    return max(1, min(len(os.sched_getaffinity(0)), free // needs))
 
 
 def lines_of_crates():
