@@ -10,9 +10,9 @@ use Rattle.format_calculator.specs.Calculator.Laws.{char_splits, number_splits}
 same_some : {O : Type 0} {x : Option O} {o p : O} → x ≡ Some o → x ≡ Some p → o ≡ p
 same_some e f = cc
 
-fewer : (tokens rest front : List ℕ) (c : ℕ) → tokens ≡ (c ∷ front) ++ rest
+rest_is_shorter : (tokens rest front : List ℕ) (c : ℕ) → tokens ≡ (c ∷ front) ++ rest
     → width rest < width tokens
-fewer tokens rest front c e =
+rest_is_shorter tokens rest front c e =
     omega (
       arith,
       ap width e,
@@ -24,7 +24,7 @@ pub number_items : AreItems width NumberItem
 number_items = record {
   one = λ tokens o p r q (some, is, fits, e) (some2, was, fits2, f). (is ∙ sym was, e ∙ sym f);
   some = λ tokens o r is. let (c, front, split) = number_splits tokens r o is in
-      fewer tokens r front c split;
+      rest_is_shorter tokens r front c split;
   front = λ tokens o r is. let (c, front, split) = number_splits tokens r o is in
       (c ∷ front, split);
 }
@@ -38,7 +38,7 @@ char_items meant = record {
         e ∙ ap (behind is_white) rest ∙ sym f,
       );
   some = λ tokens o r is. let (c, front, split) = char_splits meant tokens r o is in
-      fewer tokens r front c split;
+      rest_is_shorter tokens r front c split;
   front = λ tokens o r is. let (c, front, split) = char_splits meant tokens r o is in
       (c ∷ front, split);
 }

@@ -23,43 +23,43 @@ pub one_sign : (f : Sign) (v : ℤ) → GivesOne (sign_value f v)
 one_sign Positive v x y e f = e ∙ sym f
 one_sign Negative v x y (fits, e) (fits2, f) = e ∙ sym f
 
-same_pos : {m n : ℕ} → pos m ≡ pos n → m ≡ n
-same_pos e = cc
+pos_is_injective : {m n : ℕ} → pos m ≡ pos n → m ≡ n
+pos_is_injective e = cc
 
 pub one_mark : (g : Mark) (v : ℤ) → GivesOne (mark_value g v)
 one_mark Factorial v x y (n, is, fits, e) (m, was, fits2, f) =
-    let same : n ≡ m = same_pos (sym is ∙ was) in
+    let same : n ≡ m = pos_is_injective (sym is ∙ was) in
     e ∙ ap (λ k. pos (factorial k)) same ∙ sym f
 
-zero_one : {X : Type 0} → pos 0 ≡ pos 1 → X
-zero_one e = absurd (cc)
+zero_is_not_one : {X : Type 0} → pos 0 ≡ pos 1 → X
+zero_is_not_one e = absurd (cc)
 
 zero_less : {X : Type 0} → pos 0 ≡ neg_ℤ (pos 1) → X
 zero_less e = absurd (cc)
 
-one_less : {X : Type 0} → pos 1 ≡ neg_ℤ (pos 1) → X
-one_less e = absurd (cc)
+one_is_not_minus_one : {X : Type 0} → pos 1 ≡ neg_ℤ (pos 1) → X
+one_is_not_minus_one e = absurd (cc)
 
 one_unit : (v : ℤ) (n : ℕ) → GivesOne (IsUnitPower v n)
 one_unit v n x y (inl (is, e)) (inl (was, f)) = e ∙ sym f
-one_unit v n x y (inl (is, e)) (inr (inl (was, f))) = zero_one (sym is ∙ was)
+one_unit v n x y (inl (is, e)) (inr (inl (was, f))) = zero_is_not_one (sym is ∙ was)
 one_unit v n x y (inl (is, e)) (inr (inr (was, f))) = zero_less (sym is ∙ was)
-one_unit v n x y (inr (inl (is, e))) (inl (was, f)) = zero_one (sym was ∙ is)
+one_unit v n x y (inr (inl (is, e))) (inl (was, f)) = zero_is_not_one (sym was ∙ is)
 one_unit v n x y (inr (inl (is, e))) (inr (inl (was, f))) = e ∙ sym f
-one_unit v n x y (inr (inl (is, e))) (inr (inr (was, f))) = one_less (sym is ∙ was)
+one_unit v n x y (inr (inl (is, e))) (inr (inr (was, f))) = one_is_not_minus_one (sym is ∙ was)
 one_unit v n x y (inr (inr (is, e))) (inl (was, f)) = zero_less (sym was ∙ is)
-one_unit v n x y (inr (inr (is, e))) (inr (inl (was, f))) = one_less (sym was ∙ is)
+one_unit v n x y (inr (inr (is, e))) (inr (inl (was, f))) = one_is_not_minus_one (sym was ∙ is)
 one_unit v n x y (inr (inr (is, e))) (inr (inr (was, f))) = e ∙ sym f
 
 one_power : (v w : ℤ) → GivesOne (IsPower v w)
 one_power v w x y (n, is, inl (low, fits, e)) (m, was, inl (low2, fits2, f)) =
-    let same : n ≡ m = same_pos (sym is ∙ was) in e ∙ ap (λ k. int_pow v k) same ∙ sym f
+    let same : n ≡ m = pos_is_injective (sym is ∙ was) in e ∙ ap (λ k. int_pow v k) same ∙ sym f
 one_power v w x y (n, is, inl (low, fits, e)) (m, was, inr (high, of)) =
-    let same : n ≡ m = same_pos (sym is ∙ was) in absurd (omega (arith, same, low, high))
+    let same : n ≡ m = pos_is_injective (sym is ∙ was) in absurd (omega (arith, same, low, high))
 one_power v w x y (n, is, inr (high, of)) (m, was, inl (low, fits, f)) =
-    let same : n ≡ m = same_pos (sym is ∙ was) in absurd (omega (arith, same, low, high))
+    let same : n ≡ m = pos_is_injective (sym is ∙ was) in absurd (omega (arith, same, low, high))
 one_power v w x y (n, is, inr (high, of)) (m, was, inr (high2, of2)) =
-    let same : n ≡ m = same_pos (sym is ∙ was) in
+    let same : n ≡ m = pos_is_injective (sym is ∙ was) in
     one_unit v m x y (subst (λ k. IsUnitPower v k x) same of) of2
 
 pub one_pair : (h : Pair) (v w : ℤ) → GivesOne (pair_value h v w)
@@ -128,9 +128,9 @@ unit_as v w x n None e high same none = λ y is. refuse y is
   where
     refuse : (y : ℤ) → IsPower v w y → ⊥
     refuse y (m, was, inl (low, fits, f)) =
-        let equal : m ≡ n = same_pos (sym was ∙ e) in omega (arith, equal, low, high)
+        let equal : m ≡ n = pos_is_injective (sym was ∙ e) in omega (arith, equal, low, high)
     refuse y (m, was, inr (large, of)) =
-        let equal : m ≡ n = same_pos (sym was ∙ e) in
+        let equal : m ≡ n = pos_is_injective (sym was ∙ e) in
         none y (subst (λ z. IsUnitPower z n y) (sym same) (subst (λ k. IsUnitPower v k y) equal of))
 unit_as v w x n (Some y) e high same is =
     (n, e, inr (high, subst (λ z. IsUnitPower z n y) same is))

@@ -344,9 +344,9 @@ ended_one bytes rest left (inr (inr (none, over))) (inl f) = let h = sym f ∙ n
 ended_one bytes rest left (inr (inr (none, over))) (inr (inl f)) = let h = sym f ∙ none in cc
 ended_one bytes rest left (inr (inr (none, over))) (inr (inr (nothing, done))) = over ∙ sym done
 
-pub ends_one : (ends : LineEnds) (bytes rest left : List ℕ) → EndsHere ends bytes rest
+pub line_end_is_unique : (ends : LineEnds) (bytes rest left : List ℕ) → EndsHere ends bytes rest
     → EndsHere ends bytes left → rest ≡ left
-ends_one ends bytes rest left it other =
+line_end_is_unique ends bytes rest left it other =
     ended_one bytes rest left (ended ends bytes rest it) (ended ends bytes left other)
 
 break_first : (b : ℕ) (bytes rest : List ℕ) → IsEnded (b ∷ bytes) rest → IsBreak b
@@ -380,8 +380,8 @@ pub lone_return : (ends : LineEnds) (tail rest : List ℕ) → NotFirst (λ b. b
     → EndsHere ends (13 ∷ tail) rest → ⊥
 lone_return ends tail rest not it = lone tail rest not (ended ends (13 ∷ tail) rest it)
 
-pub end_some : (ends : LineEnds) (end : List ℕ) → IsLineEnd ends end → 0 < length end
-end_some CrLf end is = omega (arith, ap (λ l. length l) is)
-end_some Lf end is = omega (arith, ap (λ l. length l) is)
-end_some Either end (inl is) = omega (arith, ap (λ l. length l) is)
-end_some Either end (inr is) = omega (arith, ap (λ l. length l) is)
+pub line_end_is_not_empty : (ends : LineEnds) (end : List ℕ) → IsLineEnd ends end → 0 < length end
+line_end_is_not_empty CrLf end is = omega (arith, ap (λ l. length l) is)
+line_end_is_not_empty Lf end is = omega (arith, ap (λ l. length l) is)
+line_end_is_not_empty Either end (inl is) = omega (arith, ap (λ l. length l) is)
+line_end_is_not_empty Either end (inr is) = omega (arith, ap (λ l. length l) is)

@@ -18,7 +18,7 @@ use Rattle.format_csv_records.specs.declared.dialect.Dialect.{Dialect}
 use Rattle.format_csv_records.specs.declared.extent.RecordPlace.{RecordPlace}
 use Rattle.format_csv_records.specs.declared.extent.RecordPlace.TheVariants as place
 use Rattle.format_csv_records.specs.declared.read.Reason.TheVariants.{OpenQuote, WrongLineEnd}
-use Rattle.format_csv_records.proofs.Alone.{end_some}
+use Rattle.format_csv_records.proofs.Alone.{line_end_is_not_empty}
 use Rattle.format_csv_records.proofs.Early.{feed, line_end_of}
 use Rattle.format_csv_records.proofs.One.{fields_one}
 use Rattle.format_csv_records.proofs.Placing.{text_more}
@@ -192,7 +192,7 @@ sized_whole d text fields front bytes left it splits size count total long close
       length-append it.before it.begun,
       ap (λ l. length l) e,
       length-append whole end,
-      end_some d.ends end ends,
+      line_end_is_not_empty d.ends end ends,
     ) in
     let good : IsForGood d bytes (row_of it) left = λ more.
     let wide : bytes ++ more ≡ front ++ (left ++ more) =

@@ -40,11 +40,12 @@ cut_length start [] bytes = refl
 cut_length start (end ∷ ends) bytes = ap suc (cut_length end ends bytes)
 
 -- bytes after the last field change none
-pub cut_more : (start : ℕ) (ends bytes more : List ℕ) → Rises start ends (length bytes)
+pub cut_ignores_more_bytes : (start : ℕ) (ends bytes more : List ℕ)
+    → Rises start ends (length bytes)
     → cut start ends (bytes ++ more) ≡ cut start ends bytes
 unfolding cut Rises
-cut_more start [] bytes more h = refl
-cut_more start (end ∷ ends) bytes more h =
+cut_ignores_more_bytes start [] bytes more h = refl
+cut_ignores_more_bytes start (end ∷ ends) bytes more h =
     let up = rises_first end ends (length bytes) h.1 in
     let low = h.0 in
     let at : start ≤ length bytes = omega arith in
@@ -54,18 +55,18 @@ cut_more start (end ∷ ends) bytes more h =
     ≡ take (end - start) (drop start bytes) =
     rw (drop-append-le start bytes more at)
     (take-append-le (end - start) (drop start bytes) more fits) in
-    rw (head, cut_more end ends bytes more h.1) refl
+    rw (head, cut_ignores_more_bytes end ends bytes more h.1) refl
 
 -- an end more ends the bytes after the last field
-pub cut_end : (start : ℕ) (ends bytes : List ℕ) → Rises start ends (length bytes)
+pub cut_with_last_field : (start : ℕ) (ends bytes : List ℕ) → Rises start ends (length bytes)
     → cut start (ends ++ (length bytes ∷ [])) bytes
     ≡ cut start ends bytes ++ (drop (last_of start ends) bytes ∷ [])
 unfolding cut Rises last_of
-cut_end start [] bytes h =
+cut_with_last_field start [] bytes h =
     let size = length-drop start bytes in
     let all : length (drop start bytes) ≤ length bytes - start = omega arith in
     rw (take_all (length bytes - start) (drop start bytes) all) refl
-cut_end start (end ∷ ends) bytes h = rw (cut_end end ends bytes h.1) refl
+cut_with_last_field start (end ∷ ends) bytes h = rw (cut_with_last_field end ends bytes h.1) refl
 
 pub last_append : (start : ℕ) (ends : List ℕ) (n : ℕ) → last_of start (ends ++ (n ∷ [])) ≡ n
 unfolding last_of

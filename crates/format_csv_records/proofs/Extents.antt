@@ -110,10 +110,10 @@ pub kept : (d : Dialect) → IsApart d.delimiter d.quote → (old new : RecordEx
 kept d apart old new bytes result is led =
     of_after d apart new bytes led.1 (after d old new bytes result is led)
 
-said : (d : Dialect) (old new : RecordExtent) (fresh : List ℕ)
+says_result : (d : Dialect) (old new : RecordExtent) (fresh : List ℕ)
     (result : Result (Option RecordSize) InvalidRecord) (led : IsLed d old fresh new result)
     → Says new led.2 result
-said d old new fresh result led = led.7
+says_result d old new fresh result led = led.7
 
 -- if the result is `None`, all bytes are passed
 pub open_after : (d : Dialect) → IsApart d.delimiter d.quote → (old new : RecordExtent)
@@ -122,7 +122,7 @@ pub open_after : (d : Dialect) → IsApart d.delimiter d.quote → (old new : Re
     × (new.place ≡ place.Done → ⊥)
 open_after d apart old new bytes is led =
     let it = after d old new bytes (Ok None) is led in
-    let (none, not) = said d old new (drop old.passed bytes) (Ok None) led in
+    let (none, not) = says_result d old new (drop old.passed bytes) (Ok None) led in
     elim (rw none at led.6) [
       | inl done ↦ absurd (not done)
       | inr nothing ↦ (

@@ -26,26 +26,28 @@ pub sized_good : (d : Dialect) (bytes : List ℕ) (size : RecordSize) → IsSize
 sized_good d bytes size (fields, it) ended =
     (fields, drop size.length bytes, rw ended at it.ended)
 
-found_at : (d : Dialect) (bytes : List ℕ) (IsOver : Type 0) (found : Found)
+found_for_any_end : (d : Dialect) (bytes : List ℕ) (IsOver : Type 0) (found : Found)
     → IsFound d bytes ⊥ found → IsFound d bytes IsOver found
-found_at d bytes IsOver Enough (inl good) = inl good
-found_at d bytes IsOver Enough (inr none) = absurd none
-found_at d bytes IsOver (Never fault) it = it
+found_for_any_end d bytes IsOver Enough (inl good) = inl good
+found_for_any_end d bytes IsOver Enough (inr none) = absurd none
+found_for_any_end d bytes IsOver (Never fault) it = it
 
 pub found_over : (d : Dialect) (held bytes : List ℕ) (IsOver : Type 0) (found : Found)
     → held ≡ bytes → IsFound d held ⊥ found → IsFound d bytes IsOver found
-found_over d held bytes IsOver found same it = found_at d bytes IsOver found (rw same at it)
+found_over d held bytes IsOver found same it =
+    found_for_any_end d bytes IsOver found (rw same at it)
 
 -- ---- what was looked at is of longer bytes
 
-pub of_more : (d : Dialect) (extent : RecordExtent) (held bytes read new : List ℕ) → held ≡ bytes
+pub state_on_more_bytes : (d : Dialect) (extent : RecordExtent) (held bytes read new : List ℕ)
+    → held ≡ bytes
     → ((more : List ℕ) → IsOf d extent (held ++ more)) → new ≡ bytes ++ read → IsOf d extent new
-of_more d extent held bytes read new same kept is = rw (is, ← same) (kept read)
+state_on_more_bytes d extent held bytes read new same kept is = rw (is, ← same) (kept read)
 
-pub of_same : (d : Dialect) (extent : RecordExtent) (held bytes : List ℕ) → held ≡ bytes
+pub state_on_same_bytes : (d : Dialect) (extent : RecordExtent) (held bytes : List ℕ) → held ≡ bytes
     → ((more : List ℕ) → IsOf d extent (held ++ more)) → IsOf d extent bytes
-of_same d extent held bytes same kept =
-    of_more d extent held bytes [] bytes same kept (sym (append-nil bytes))
+state_on_same_bytes d extent held bytes same kept =
+    state_on_more_bytes d extent held bytes [] bytes same kept (sym (append-nil bytes))
 
 -- ---- bytes that grew
 
@@ -151,9 +153,10 @@ behind_front a n xs ys zs within fits =
 
 -- ---- out of memory
 
-pub no_err : {X E P : Type 0} {x : X} {e : E} → Ok x ≡ Err e → P
-no_err e = absurd (cc)
+pub ok_is_not_err : {X E P : Type 0} {x : X} {e : E} → Ok x ≡ Err e → P
+ok_is_not_err e = absurd (cc)
 
-pub err_in : {X Y E P : Type 0} (r : Result X E) (s : Result Y E) (a b : E) → r ≡ Err a → s ≡ Err a
+pub same_error : {X Y E P : Type 0} (r : Result X E) (s : Result Y E) (a b : E) → r ≡ Err a
+    → s ≡ Err a
     → s ≡ Err b → (r ≡ Err b → P) → P
-err_in r s a b e f g more = more (cc)
+same_error r s a b e f g more = more (cc)

@@ -21,8 +21,8 @@ use Rattle.format_csv_records.specs.declared.dialect.Dialect.{Dialect}
 abbrev is_other : Dialect → ℕ → Bool
 is_other d x = (eqb x d.quote || eqb x d.delimiter) || (eqb x 13 || eqb x 10)
 
-no_other : (d : Dialect) (x : ℕ) → is_other d x ≡ true → IsPlain d x → ⊥
-no_other d x is p = grind (arith, nat_tests)
+other_is_not_plain : (d : Dialect) (x : ℕ) → is_other d x ≡ true → IsPlain d x → ⊥
+other_is_not_plain d x is p = grind (arith, nat_tests)
 
 all_other : (d : Dialect) (x : ℕ) → is_other d x ≡ false → IsPlain d x
 all_other d x is = grind (arith, nat_tests)
@@ -37,9 +37,9 @@ either true false = refl
 either false true = refl
 either false false = refl
 
-top_lane : (b : Bool) → top 7 (lane b) ≡ b
-top_lane true = refl
-top_lane false = refl
+top_bit_of_lane : (b : Bool) → top 7 (lane b) ≡ b
+top_bit_of_lane true = refl
+top_bit_of_lane false = refl
 
 joined : (p q : ℕ → Bool) (xs : List ℕ) {us vs : List ℕ} → us ≡ map (λ x. lane (p x)) xs
     → vs ≡ map (λ x. lane (q x)) xs → zip2 bit_or us vs ≡ map (λ x. lane (p x || q x)) xs
@@ -65,7 +65,7 @@ others_are d bytes room =
     (joined (λ x. eqb x 13) (λ x. eqb x 10) xs (eq 13) (eq 10)) in
     ap (λ l. mask_l l % 2 ^ 64)
     (ap (map (top 7)) all ∙ map-map (top 7) (λ x. lane (is_other d x)) xs
-    ∙ (λ i. map (λ x. top_lane (is_other d x) i) xs))
+    ∙ (λ i. map (λ x. top_bit_of_lane (is_other d x) i) xs))
     ∙ mask_l-mod (map (is_other d) xs) 64 (omega (arith, length-map xs (is_other d), long))
 
 -- ---- the first that is set
@@ -118,7 +118,7 @@ module _ (d : Dialect) (bytes : List ℕ) (others : ℕ) (room : 16 ≤ length b
   pub all_plain : others ≡ 0 → All (IsPlain d) (take 16 bytes)
   all_plain none =
       subst (λ l. All (IsPlain d) (take 16 l)) (drop_none bytes)
-      (none_set (is_other d) (IsPlain d) (no_other d) (all_other d) (chunk 0 16 bytes)
+      (none_set (is_other d) (IsPlain d) (other_is_not_plain d) (all_other d) (chunk 0 16 bytes)
       (sym are ∙ none))
 
   pub first_other : (others ≡ 0 → ⊥) → SoMany (IsPlain d) bytes (count_trailing_zeros 64 others)
@@ -131,7 +131,8 @@ module _ (d : Dialect) (bytes : List ℕ) (others : ℕ) (room : 16 ≤ length b
       subst (λ n. SoMany (IsPlain d) bytes n) (sym size)
       (subst (λ l. SoMany (IsPlain d) l (prefix_len (λ x. not (is_other d x)) v))
       (sym (chunk-drop 0 16 bytes))
-      (some_set (is_other d) (IsPlain d) (no_other d) (all_other d) v (drop 16 bytes) positive))
+      (some_set (is_other d) (IsPlain d) (other_is_not_plain d) (all_other d) v (drop 16 bytes)
+      positive))
 
 -- ---- the longest prefix, part by part
 

@@ -12,7 +12,8 @@ use Rattle.format_csv_records.specs.Parts.{FieldFirst}
 use Rattle.format_csv_records.specs.Refused.{IsRefused, NoneWith}
 use Rattle.format_csv_records.specs.declared.dialect.Dialect.{Dialect}
 use Rattle.format_csv_records.specs.declared.read.InvalidRecord.{InvalidRecord}
-use Rattle.format_csv_records.proofs.Alone.{end_some, ends_apart, ends_one, field_apart, same_first}
+use Rattle.format_csv_records.proofs.Alone.{line_end_is_not_empty, ends_apart, line_end_is_unique}
+use Rattle.format_csv_records.proofs.Alone.{field_apart, same_first}
 use Rattle.format_csv_records.proofs.Alone.{same_others}
 use Rattle.format_csv_records.proofs.Whole.{SoFar, behind_first, done_fields, done_more, first_text}
 use Rattle.format_csv_records.proofs.Whole.{last_field}
@@ -31,7 +32,7 @@ fields_one d apart (f ∷ fs) others bytes rest left it other =
         | inl (nothing, close) ↦ (
           a.all ∙ ap (λ l. a.field ∷ l) (none ∙ sym nothing) ∙ ap (λ x. x ∷ b.others) same
               ∙ sym b.all,
-          ends_one d.ends b.behind rest left (rw e at ends) close,
+          line_end_is_unique d.ends b.behind rest left (rw e at ends) close,
         )
         | inr (more, is, them) ↦ absurd (ends_apart d apart a.behind rest more ends (e ∙ is))
       ]
@@ -93,7 +94,7 @@ unfolding AreFields
 fields_less d [] bytes rest it some = absurd it
 fields_less d (field ∷ []) bytes rest (text, behind, is, e, inl (end, line, f)) some = omega (
   arith,
-  end_some d.ends end line,
+  line_end_is_not_empty d.ends end line,
   ap (λ l. length l) (e ∙ ap (λ l. text ++ l) f),
   length-append text (end ++ rest),
   length-append end rest,

@@ -190,39 +190,40 @@ nothing_put made d bytes text places = record {
   few = omega arith;
 }
 
-put_more : {P : Type 0} (made : ℕ → ℕ → P) (fields : List (List ℕ)) (old now new : List ℕ)
+put_next_field : {P : Type 0} (made : ℕ → ℕ → P) (fields : List (List ℕ)) (old now new : List ℕ)
     (before between after : List P) (end count last : ℕ)
     → Put made fields old now before between end count → (field : List ℕ)
     → Puts field end now new last → Placed (made end (last - end)) count between after
     → Put made (fields ++ field ∷ []) old new before after last (count + 1)
 unfolding places_of
-put_more made fields old now new before between after end count last it field puts placed = record {
-  total = omega (
-    arith,
-    it.total,
-    puts.is_end,
-    ap (λ l. length l) (text_more fields field),
-    length-append (text_of fields) field,
-  );
-  number = omega (arith, it.number, length-append fields (field ∷ []));
-  same = (puts.same ∙ it.same.0, placed.same ∙ it.same.1);
-  text = λ room.
-      puts.there (omega (arith, room, it.same.0))
-      ∙ ap (λ l. l ++ field) (it.text (omega (arith, room, puts.is_end)))
-      ∙ sym (text_more fields field);
-  places = λ room.
-      let size : last - end ≡ length field = omega (arith, puts.is_end) in
-      let from : end ≡ 0 + length (text_of fields) = omega (arith, it.total) in
-      placed.there (omega (arith, room, it.same.1))
-      ∙ ap (λ l. l ++ made end (last - end) ∷ []) (it.places (omega (arith, room)))
-      ∙ ap (λ n. places_of made 0 fields ++ made end n ∷ []) size
-      ∙ ap (λ o. places_of made 0 fields ++ made o (length field) ∷ []) from
-      ∙ sym (places_more made 0 fields field);
-  text_behind =
-      puts.behind ∙ later_same end last (length field) now old puts.is_end it.text_behind;
-  places_behind =
-      placed.behind ∙ later_same count (count + 1) 1 between before refl it.places_behind;
-}
+put_next_field made fields old now new before between after end count last it field puts
+    placed = record {
+      total = omega (
+        arith,
+        it.total,
+        puts.is_end,
+        ap (λ l. length l) (text_more fields field),
+        length-append (text_of fields) field,
+      );
+      number = omega (arith, it.number, length-append fields (field ∷ []));
+      same = (puts.same ∙ it.same.0, placed.same ∙ it.same.1);
+      text = λ room.
+          puts.there (omega (arith, room, it.same.0))
+          ∙ ap (λ l. l ++ field) (it.text (omega (arith, room, puts.is_end)))
+          ∙ sym (text_more fields field);
+      places = λ room.
+          let size : last - end ≡ length field = omega (arith, puts.is_end) in
+          let from : end ≡ 0 + length (text_of fields) = omega (arith, it.total) in
+          placed.there (omega (arith, room, it.same.1))
+          ∙ ap (λ l. l ++ made end (last - end) ∷ []) (it.places (omega (arith, room)))
+          ∙ ap (λ n. places_of made 0 fields ++ made end n ∷ []) size
+          ∙ ap (λ o. places_of made 0 fields ++ made o (length field) ∷ []) from
+          ∙ sym (places_more made 0 fields field);
+      text_behind =
+          puts.behind ∙ later_same end last (length field) now old puts.is_end it.text_behind;
+      places_behind =
+          placed.behind ∙ later_same count (count + 1) 1 between before refl it.places_behind;
+    }
 
 ends_with : (ends : LineEnds) (bytes rest : List ℕ) → EndsHere ends bytes rest
     → (front : List ℕ) × (bytes ≡ front ++ rest)
@@ -237,7 +238,8 @@ module _ {P : Type 0} (made : ℕ → ℕ → P) (d : Dialect) (apart : IsApart 
     (made_so : x ≡ made end (last - end)) (placed : Placed x count between after) where
   put_here : Put made (it.fields ++ field ∷ []) old new before after last (count + 1)
   put_here =
-      put_more made it.fields old now new before between after end count last it.put field puts.0
+      put_next_field made it.fields old now new before between after end count last it.put field
+      puts.0
       (rw made_so at placed)
 
   pub fields_more : (next : List ℕ) → left ≡ d.delimiter ∷ drop 1 left → next ≡ drop 1 left

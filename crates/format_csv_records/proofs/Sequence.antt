@@ -5,7 +5,7 @@ use Rattle.std.specs.Prelude.{false, true}
 use Rattle.std.proofs.Common.{refl, sym, ap, subst, inl, inr, ◌∙◌, arith, append_assoc}
 use Rattle.std.proofs.lemmas.List.{append-nil, length-append}
 use Rattle.std.specs.Io.KnownBytes.{IsAtEnd}
-use Rattle.format_csv_records.proofs.Alone.{end_some}
+use Rattle.format_csv_records.proofs.Alone.{line_end_is_not_empty}
 use Rattle.format_csv_records.specs.Dialects.{AreFields, EndsHere, IsRecord}
 use Rattle.format_csv_records.specs.declared.dialect.Dialect.{Dialect}
 use Rattle.format_csv_records.specs.declared.dialect.LineEnds.{LineEnds}
@@ -27,7 +27,7 @@ ends_front : (ends : LineEnds) (bytes rest : List ℕ) → EndsHere ends bytes r
     → (end : List ℕ) × EndsHere ends end [] × (bytes ≡ end ++ rest)
     × ((0 < length end) ⊎ (rest ≡ []))
 ends_front ends bytes rest (inl (end, is, e)) =
-    (end, inl (end, is, sym (append-nil end)), e, inl (end_some ends end is))
+    (end, inl (end, is, sym (append-nil end)), e, inl (line_end_is_not_empty ends end is))
 ends_front ends bytes rest (inr (none, over)) =
     ([], inr (refl, refl), none ∙ sym over, inr over)
 

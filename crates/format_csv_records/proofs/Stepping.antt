@@ -122,9 +122,9 @@ pub grows_feed : (d : Dialect) → IsLineEnd d.ends (10 ∷ [])
     → Grows (IsFieldText d) (10 ∷ []) 0 (IsFieldPrefix d place.Done)
 grows_feed d is field begun it = (field, omega arith, (begun, 10 ∷ [], it, is, refl))
 
-pub grows_both : (d : Dialect)
+pub feed_after_return_grows : (d : Dialect)
     → Grows (IsFieldPrefix d place.Return) (10 ∷ []) 0 (IsFieldPrefix d place.Done)
-grows_both d field begun (text, it, is, e) = (
+feed_after_return_grows d field begun (text, it, is, e) = (
   field,
   omega arith,
   (text, 13 ∷ 10 ∷ [], it, is, ap (λ l. l ++ 10 ∷ []) e ∙ append_assoc text (13 ∷ []) (10 ∷ [])),

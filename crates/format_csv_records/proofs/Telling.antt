@@ -36,9 +36,9 @@ read_split d bytes (Ok false) fields rest (none, over, f) =
     record { front = []; is = none ∙ sym over }
 read_split d bytes (Err e) fields rest (why, same, f) = record { front = []; is = sym same }
 
-pub rest_is : (bytes rest : List ℕ) → Splits bytes rest
+pub rest_by_length : (bytes rest : List ℕ) → Splits bytes rest
     → drop (length bytes - length rest) bytes ≡ rest
-rest_is bytes rest it =
+rest_by_length bytes rest it =
     let many : length it.front ≡ length bytes - length rest =
     omega (arith, ap (λ l. length l) it.is, length-append it.front rest) in
     ap (λ l. drop (length bytes - length rest) l) it.is
@@ -50,7 +50,7 @@ pub held_taken : (d : Dialect) (held bytes rest new : List ℕ) (result : Result
 held_taken d held bytes rest new result fields same told is =
     let splits = read_split d held result fields rest told in
     let left : new ≡ rest =
-    is ∙ ap (drop (length held - length rest)) (sym same) ∙ rest_is held rest splits in
+    is ∙ ap (drop (length held - length rest)) (sym same) ∙ rest_by_length held rest splits in
     rw left (rw same at told)
 
 -- ---- results for some bytes that also hold for all longer bytes
@@ -60,12 +60,12 @@ ended : (d : Dialect) (bytes before more : List ℕ) (fields : List (List ℕ))
 ended d bytes before more fields e on never =
     never more fields [] (rw (e ∙ append-nil before) on)
 
-lacks_on : (d : Dialect) (why : Reason) (before more : List ℕ) (b : ℕ) (bs ys : List ℕ)
+lacks_on_more_bytes : (d : Dialect) (why : Reason) (before more : List ℕ) (b : ℕ) (bs ys : List ℕ)
     → Lacks d why before more (b ∷ bs) → Lacks d why before more (b ∷ (bs ++ ys))
-lacks_on d QuoteInField before more b bs ys it = it
-lacks_on d ByteBehindQuote before more b bs ys it = it
-lacks_on d WrongLineEnd before more b bs ys it = it
-lacks_on d OpenQuote before more b bs ys (quote, over) = absurd (cc)
+lacks_on_more_bytes d QuoteInField before more b bs ys it = it
+lacks_on_more_bytes d ByteBehindQuote before more b bs ys it = it
+lacks_on_more_bytes d WrongLineEnd before more b bs ys it = it
+lacks_on_more_bytes d OpenQuote before more b bs ys (quote, over) = absurd (cc)
 
 refused_on : (d : Dialect) (bytes ys : List ℕ) (at : InvalidRecord) → IsRefused d bytes at
     → IsPrefixOfNone d bytes → IsRefused d (bytes ++ ys) at
@@ -79,7 +79,7 @@ refused_on d bytes ys at (before, b ∷ bs, more, fs, e, size, on, lack, none) n
   ap (λ l. l ++ ys) e ∙ append_assoc before (b ∷ bs) ys,
   size,
   on,
-  lacks_on d at.why before more b bs ys lack,
+  lacks_on_more_bytes d at.why before more b bs ys lack,
   none,
 )
 

@@ -15,7 +15,8 @@ use Rattle.format_csv_records.specs.declared.read.Reason.{Reason}
 use Rattle.format_csv_records.specs.declared.read.Reason.TheVariants.{QuoteInField}
 use Rattle.format_csv_records.specs.declared.read.Reason.TheVariants.{ByteBehindQuote}
 use Rattle.format_csv_records.specs.declared.read.Reason.TheVariants.{OpenQuote, WrongLineEnd}
-use Rattle.format_csv_records.proofs.Alone.{doubled_behind, end_some, ends_apart, ends_stop}
+use Rattle.format_csv_records.proofs.Alone.{doubled_behind, line_end_is_not_empty, ends_apart}
+use Rattle.format_csv_records.proofs.Alone.{ends_stop}
 use Rattle.format_csv_records.proofs.Alone.{field_apart, lone_return, open_apart, quoted_behind}
 use Rattle.format_csv_records.proofs.Alone.{same_others, text_first}
 use Rattle.format_csv_records.proofs.Early.{line_end_of}
@@ -278,7 +279,7 @@ module _ (d : Dialect) (apart : IsApart d.delimiter d.quote) (bytes rest : List 
     ends_a_field end is = (
       fields ++ field ∷ [],
       closes (it.before ++ (first_text d rest field left f).text) end refl
-          (inl (end, is, sym (append-nil end))) (end_some d.ends end is),
+          (inl (end, is, sym (append-nil end))) (line_end_is_not_empty d.ends end is),
     )
 
     -- no record continues with this byte

@@ -16,13 +16,14 @@ use Rattle.format_csv_records.specs.Written.{Writes, Wrote, bytes_of, written_en
 use Rattle.format_csv_records.specs.declared.dialect.Dialect.{Dialect}
 use Rattle.format_csv_records.specs.declared.dialect.LineEnds.{LineEnds}
 use Rattle.format_csv_records.specs.declared.dialect.LineEnds.TheVariants.{CrLf, Lf, Either}
-use Rattle.format_csv_records.proofs.Alone.{doubled_behind, doubled_none, doubled_two, end_some}
+use Rattle.format_csv_records.proofs.Alone.{doubled_behind, doubled_none, doubled_two}
+use Rattle.format_csv_records.proofs.Alone.{line_end_is_not_empty}
 use Rattle.format_csv_records.proofs.Alone.{take_quote}
 use Rattle.format_csv_records.proofs.Whole.{done_fields, last_field}
 
-pub not_all : (these : ℕ → Type 0) (xs : List ℕ) (n : ℕ) → SoMany these xs n
+pub fewer_are_not_all : (these : ℕ → Type 0) (xs : List ℕ) (n : ℕ) → SoMany these xs n
     → (n ≡ length xs → ⊥) → All these xs → ⊥
-not_all these xs n (within, first, not) some all =
+fewer_are_not_all these xs n (within, first, not) some all =
     let less : n < length xs = omega arith in
     (rw (drop_more xs n 0 less) at not) (all n 0 less)
 
@@ -85,25 +86,25 @@ bytes_more fields i d less = map_more (λ (f : Bor (List ℕ)). f.now) fields i 
 
 -- ---- what was there stays
 
-pub kept_all : (old new : List ℕ) → new ≡ old → Extends old new
-kept_all old new e = ([], e ∙ sym (append-nil old))
+pub same_text_extends : (old new : List ℕ) → new ≡ old → Extends old new
+same_text_extends old new e = ([], e ∙ sym (append-nil old))
 
-pub kept_on : (old mid new : List ℕ) → Extends old mid → Extends mid new → Extends old new
-kept_on old mid new (more, e) (others, f) =
+pub extends_in_turn : (old mid new : List ℕ) → Extends old mid → Extends mid new → Extends old new
+extends_in_turn old mid new (more, e) (others, f) =
     (more ++ others, f ∙ ap (λ l. l ++ others) e ∙ append_assoc old more others)
 
 pub kept_after : (old more mid new : List ℕ) → mid ≡ old ++ more → Extends mid new
     → Extends old new
-kept_after old more mid new e is = kept_on old mid new (more, e) is
+kept_after old more mid new e is = extends_in_turn old mid new (more, e) is
 
 pub kept_added : {E : Type 0} (r : Result (Unit {0}) E) (old new more : List ℕ)
     → new ≡ (if is_ok r then old ++ more else old) → Extends old new
 kept_added (Ok u) old new more e = (more, e)
-kept_added (Err x) old new more e = kept_all old new e
+kept_added (Err x) old new more e = same_text_extends old new e
 
-pub front_of : (old new end : List ℕ) (n : ℕ) → Extends old new → n ≡ length old
+pub front_of_extension : (old new end : List ℕ) (n : ℕ) → Extends old new → n ≡ length old
     → end ≡ take n new → end ≡ old
-front_of old new end n (more, e) size t =
+front_of_extension old new end n (more, e) size t =
     t ∙ ap (λ l. take n l) e ∙ take-append-le n old more (omega (arith, size))
     ∙ take_all n old (omega (arith, size))
 
@@ -146,7 +147,7 @@ reads_back d fields old new it =
               length-append (it.before ++ (it.text ++ it.end)) rest,
               length-append it.before (it.text ++ it.end),
               length-append it.text it.end,
-              end_some d.ends it.end ended,
+              line_end_is_not_empty d.ends it.end ended,
             ),
             rw (it.all, tidy) (done_fields d it.others it.before
                 (it.text ++ (it.end ++ rest)) (it.last ∷ []) rest

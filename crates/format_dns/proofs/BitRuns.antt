@@ -75,9 +75,9 @@ unfolding number_of
 one_bit b = omega arith
 
 -- an output is no error
-pub no_error : {S T O P : Type 0} {k : Kind} {left : Left T} {o : O} {e : End S T}
+pub taking_does_not_fail : {S T O P : Type 0} {k : Kind} {left : Left T} {o : O} {e : End S T}
     → FailsAt k left (took o e) → P
-no_error fails = absurd (fails.is)
+taking_does_not_fail fails = absurd (fails.is)
 
 -- the kind where bits are missing
 short_at : {S T O : Type 0} {k : Kind} {left : Left T} (at : Setting) (w : Left T) (need : ℕ)
@@ -107,7 +107,8 @@ bool_run reading at s w o e (inr (inr (none, same))) =
 bool_must : {L : Type 0} (reading : Reading Bool L) (at : Setting) (s : ⊤) (w : Left Bool)
     (k : Kind) (left : Left Bool) → CanRead 1 at w → Failing (BitBoolDoes reading at s w) k left
     → ⊥
-bool_must reading at s w k left can (y, inl (b, rest, so, e), fails) = no_error (fails_by e fails)
+bool_must reading at s w k left can (y, inl (b, rest, so, e), fails) =
+    taking_does_not_fail (fails_by e fails)
 bool_must reading at s w k left can (y, inr (inl (cannot, e)), fails) =
     true_is_false (sym can.possible ∙ cannot)
 bool_must reading at s w k left can (y, inr (inr ((possible, none), e)), fails) =
@@ -117,7 +118,7 @@ bool_lacks : {L : Type 0} (reading : Reading Bool L) (at : Setting) (s : ⊤) (w
     (k : Kind) (left : Left Bool) → at.form ≡ modal → at.possible ≡ true
     → Failing (BitBoolDoes reading at s w) k left → ShortKind modal (Some 1) (input_at at w) k
 bool_lacks reading at s w k left is can (y, inl (b, rest, so, e), fails) =
-    no_error (fails_by e fails)
+    taking_does_not_fail (fails_by e fails)
 bool_lacks reading at s w k left is can (y, inr (inl (cannot, e)), fails) =
     true_is_false (sym can ∙ cannot)
 bool_lacks reading at s w k left is can (y, inr (inr (none, e)), fails) =
@@ -154,7 +155,7 @@ take_must : {L : Type 0} (reading : Reading Bool L) (at : Setting) (n count : �
     (k : Kind) (left : Left Bool) → n ≡ count → count ≤ 8 → CanRead count at w
     → Failing (TakeMeans reading at n w) k left → ⊥
 take_must reading at n count w k left is fits can (y, inl (o, rest, so, e), fails) =
-    no_error (fails_by e fails)
+    taking_does_not_fail (fails_by e fails)
 take_must reading at n count w k left is fits can (y, inr (inl ((some, why), e)), fails) =
     elim why [
       | inl wide ↦ absurd (omega (arith, wide, is, fits))
@@ -168,7 +169,7 @@ take_lacks : {L : Type 0} (reading : Reading Bool L) (at : Setting) (n count : �
     → at.possible ≡ true → Failing (TakeMeans reading at n w) k left
     → ShortKind modal (Some count) (input_at at w) k
 take_lacks reading at n count w k left is fits form can (y, inl (o, rest, so, e), fails) =
-    no_error (fails_by e fails)
+    taking_does_not_fail (fails_by e fails)
 take_lacks reading at n count w k left is fits form can
     (y, inr (inl ((some, why), e)), fails) = elim why [
       | inl wide ↦ absurd (omega (arith, wide, is, fits))

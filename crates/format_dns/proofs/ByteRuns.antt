@@ -26,7 +26,7 @@ use Rattle.parser_definitions.specs.Outcome.{took, wants}
 use Rattle.winnow_bits.specs.BitsOfBytes.Inversion.{bits_ok, whole_number}
 use Rattle.winnow_core.specs.Short.{ShortKind}
 use Rattle.format_dns.specs.Header.{HasTooMany, LacksPart}
-use Rattle.format_dns.proofs.BitRuns.{CanRead, ReadsBits, no_error}
+use Rattle.format_dns.proofs.BitRuns.{CanRead, ReadsBits, taking_does_not_fail}
 
 one_byte : (taken rest tokens : List ℕ) (n : ℕ) → length taken ≡ 1 → All (λ b. b < 256) taken
     → tokens ≡ taken ++ rest → n ≡ number_of (bits_of taken) → tokens ≡ n ∷ rest
@@ -81,7 +81,7 @@ module _ {S O L : Type 0} (reading : Reading ℕ L) (does : Does S Bool O) (s : 
     where
       by : (x : Outcome (End S Bool) O) → does (inside at) s (bits_left w) x
           → InBytes reading w x y → ⊥
-      by (took o rest) d (end, leaves, e) = no_error (fails_by e fails)
+      by (took o rest) d (end, leaves, e) = taking_does_not_fail (fails_by e fails)
       by (backs rest) d e = parts.answers (inside at) (bits_left w) backtrack rest.1
           (can at w some) (backs rest, d, record { is = (refl, refl) })
       by (cuts rest) d e = parts.answers (inside at) (bits_left w) cut rest.1
@@ -134,7 +134,7 @@ module _ {S O L : Type 0} (reading : Reading ℕ L) (does : Does S Bool O) (s : 
       missing : (none : w.tokens ≡ []) (x : Outcome (End S Bool) O)
           → does (inside at) s (bits_left w) x → InBytes reading w x y
           → LacksPart 0 1 (input_at at w) k (input_at at left)
-      missing none (took o rest) d (end, leaves, e) = no_error (fails_by e fails)
+      missing none (took o rest) d (end, leaves, e) = taking_does_not_fail (fails_by e fails)
       missing none (backs rest) d e =
           let told = fails_by e fails in
           here none (sym told.is.1)

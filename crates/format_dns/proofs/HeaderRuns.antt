@@ -30,7 +30,8 @@ use Rattle.parser_definitions.specs.Inversion.Tokens.{integer_ok}
 use Rattle.parser_definitions.specs.Left.{Left, left_of}
 use Rattle.parser_definitions.specs.Outcome.{Does, Setting, lacks, outcome_of, setting_of}
 use Rattle.parser_definitions.specs.Sequence.{SequenceDoes3}
-use Rattle.format_dns.proofs.BitRuns.{ReadsBits, TakeMeans, bool_reads, no_error, take_reads}
+use Rattle.format_dns.proofs.BitRuns.{ReadsBits, TakeMeans, bool_reads, taking_does_not_fail}
+use Rattle.format_dns.proofs.BitRuns.{take_reads}
 use Rattle.format_dns.proofs.BitRuns.{three_read}
 use Rattle.format_dns.proofs.ByteRuns.{byte_fails, byte_must, byte_read}
 
@@ -213,18 +214,19 @@ number_left n bytes rest it =
     )
 
 -- the first bytes are missing
-few_bytes : {L : Type 0} (reading : Reading ℕ L) (at : Setting) (w : Left ℕ) (k : Kind)
+number_lacks_bytes : {L : Type 0} (reading : Reading ℕ L) (at : Setting) (w : Left ℕ) (k : Kind)
     (left : Left ℕ) → Failing (NumberDoes 2 reading at tt w) k left
     → (length w.tokens < 2) × FailsAt {S = ⊤} {O = ℕ} k left
     (lacks at (Some (2 - length w.tokens)) (tt, w))
-few_bytes reading at w k left (y, inl (o, rest, so, e), fails) = no_error (fails_by e fails)
-few_bytes reading at w k left (y, inr (few, e), fails) = (few, fails_by e fails)
+number_lacks_bytes reading at w k left (y, inl (o, rest, so, e), fails) =
+    taking_does_not_fail (fails_by e fails)
+number_lacks_bytes reading at w k left (y, inr (few, e), fails) = (few, fails_by e fails)
 
 pub number_must : {L : Type 0} (reading : Reading ℕ L) (i : Input ℕ) (k : Kind) (t : ⊤)
     (j : Input ℕ) → 2 ≤ length i.left.tokens
     → Ran reading (NumberDoes 2 reading) modal tt i (Err k) t j → ⊥
 number_must reading i k t j enough ran =
-    let told = few_bytes reading (setting_of modal i) (left_of i) k (left_of j)
+    let told = number_lacks_bytes reading (setting_of modal i) (left_of i) k (left_of j)
     (failed reading (NumberDoes 2 reading) tt i k t j ran) in
     omega (arith, told.0, enough)
 
@@ -233,7 +235,7 @@ pub number_fails : {L : Type 0} (reading : Reading ℕ L) (i : Input ℕ) (k : K
     → LacksPart 0 2 i k j
 number_fails reading i k t j ran =
     let at = setting_of modal i in
-    let (few, fails) = few_bytes reading at (left_of i) k (left_of j)
+    let (few, fails) = number_lacks_bytes reading at (left_of i) k (left_of j)
     (failed reading (NumberDoes 2 reading) tt i k t j ran) in
     let told = lacks_at modal i.status.cut (Some (2 - length i.left.tokens)) (tt, left_of i)
     fails in

@@ -10,7 +10,7 @@ use Rattle.format_dns.proofs.FieldLaws.{asked_length}
 use Rattle.format_dns.proofs.NameLaws.{no_name, one_behind}
 use Rattle.format_dns.specs.Names.{At}
 use Rattle.format_dns.specs.Questions.{AreQuestions, HasNoQuestion, HaveNoQuestions, IsQuestion}
-use Rattle.format_dns.specs.Questions.{PartResult, QuestionsLack, Rows, RowsFail, RowsLack}
+use Rattle.format_dns.specs.Questions.{PartResult, QuestionsLack, Rows, RowsFail, NextEntryFails}
 use Rattle.format_dns.specs.declared.fault.PartError.{PartError}
 use Rattle.format_dns.specs.declared.fault.PartError.TheVariants.{NoMemory}
 use Rattle.format_dns.specs.declared.question.Question.{Question}
@@ -73,7 +73,7 @@ module _ {X : Type 0} (Is : ℕ → X → Type 0) (behind : X → ℕ) where
 
 pub lack_fails : {X : Type 0} (Is : ℕ → X → Type 0) (behind : X → ℕ)
     (Fails : ℕ → PartError → Type 0) (start count entry : ℕ) (fault : PartError)
-    → RowsLack Is behind Fails start count entry fault
+    → NextEntryFails Is behind Fails start count entry fault
     → RowsFail Is behind Fails start count fault
 lack_fails Is behind Fails start count entry fault (parts, place, rows, size, few, fails) =
     (parts, place, rows, omega (arith, size, few), fails)

@@ -36,9 +36,10 @@ abbrev pub WantsMemory : ℕ → PartError → Type 0
 WantsMemory place fault = fault ≡ NoMemory
 
 -- There are `entry` parts, fewer than `count`, and after them the next fails.
-abbrev pub RowsLack : {X : Type 0} → (ℕ → X → Type 0) → (X → ℕ) → (ℕ → PartError → Type 0) → ℕ → ℕ
+abbrev pub NextEntryFails : {X : Type 0} → (ℕ → X → Type 0) → (X → ℕ) → (ℕ → PartError → Type 0)
+    → ℕ → ℕ
     → ℕ → PartError → Type 0
-RowsLack {X} Is behind Fails start count entry fault =
+NextEntryFails {X} Is behind Fails start count entry fault =
     (parts : List X) × (place : ℕ) × Rows Is behind start parts place × (length parts ≡ entry)
     × (entry < count) × Fails place fault
 
@@ -103,13 +104,13 @@ module _ (message : List ℕ) (pointers : ℕ) where
   -- After `entry` questions, fewer than `count`, the next is invalid for this reason.
   abbrev pub QuestionsLack : Type 0 → ℕ → ℕ → ℕ → PartError → Type 0
   QuestionsLack A =
-      RowsLack (λ place (question : Question A). IsQuestion place question)
+      NextEntryFails (λ place (question : Question A). IsQuestion place question)
       (λ question. question.behind) HasNoQuestion
 
   -- After `entry` questions, fewer than `count`, memory allocation failed.
   abbrev pub QuestionsWant : Type 0 → ℕ → ℕ → ℕ → PartError → Type 0
   QuestionsWant A =
-      RowsLack (λ place (question : Question A). IsQuestion place question)
+      NextEntryFails (λ place (question : Question A). IsQuestion place question)
       (λ question. question.behind) WantsMemory
 
   -- the contract of `count` questions

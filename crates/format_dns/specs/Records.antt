@@ -3,7 +3,7 @@ use Rattle.std.specs.Prelude.{◌≡◌, ◌⊎◌, ◌≤◌, ◌<◌, ◌+◌,
 use Rattle.format_dns.specs.Data.{IsOfForm, NoForm, form_in}
 use Rattle.format_dns.specs.Fields.{AreRecordFields}
 use Rattle.format_dns.specs.Names.{At, HasNoName, Label}
-use Rattle.format_dns.specs.Questions.{HasName, IsShort, PartResult, Rows, RowsFail, RowsLack}
+use Rattle.format_dns.specs.Questions.{HasName, IsShort, PartResult, Rows, RowsFail, NextEntryFails}
 use Rattle.format_dns.specs.Questions.{WantsMemory}
 use Rattle.format_dns.specs.declared.fault.PartError.{PartError}
 use Rattle.format_dns.specs.declared.fault.PartError.TheVariants.{Ends}
@@ -60,12 +60,12 @@ module _ (message : List ℕ) (pointers : ℕ) where
   -- After `entry` records, fewer than `count`, the next is invalid for this reason.
   abbrev pub RecordsLack : Type 0 → ℕ → ℕ → ℕ → PartError → Type 0
   RecordsLack A =
-      RowsLack (λ place (it : Record A). IsRecord place it) (λ it. it.behind) HasNoRecord
+      NextEntryFails (λ place (it : Record A). IsRecord place it) (λ it. it.behind) HasNoRecord
 
   -- After `entry` records, fewer than `count`, memory allocation failed.
   abbrev pub RecordsWant : Type 0 → ℕ → ℕ → ℕ → PartError → Type 0
   RecordsWant A =
-      RowsLack (λ place (it : Record A). IsRecord place it) (λ it. it.behind) WantsMemory
+      NextEntryFails (λ place (it : Record A). IsRecord place it) (λ it. it.behind) WantsMemory
 
   -- the contract of `count` records
   abbrev pub RecordsResult : {A : Type 0} → ℕ → ℕ → Result (Records A) PartError → Type 0

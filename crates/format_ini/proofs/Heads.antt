@@ -70,10 +70,10 @@ section_first text name behind e =
     let P : List ℕ → Type 0 = λ l. StartsWith (λ b. b ≡ 91) l in subst P (sym e) refl
 
 -- at the last of these a list is cut in one way
-last_one : (P : ℕ → Type 0) (a b : List ℕ) (m n : ℕ) (r s : List ℕ)
+last_stop_is_unique : (P : ℕ → Type 0) (a b : List ℕ) (m n : ℕ) (r s : List ℕ)
     → All (λ x. P x → ⊥) r → All (λ x. P x → ⊥) s → P m → P n
     → a ++ (m ∷ r) ≡ b ++ (n ∷ s) → a ≡ b
-last_one P a b m n r s p q is too e = elim (either_first a b m n r s e) [
+last_stop_is_unique P a b m n r s p q is too e = elim (either_first a b m n r s e) [
   | inl same ↦ same
   | inr (inl (c, f)) ↦
       let g : (b ++ (n ∷ c)) ++ (m ∷ r) ≡ b ++ (n ∷ (c ++ (m ∷ r))) =
@@ -93,15 +93,18 @@ loose_one : (text name other : List ℕ) → IsLooseSection text name → IsLoos
     → name ≡ other
 loose_one text name other (r, e, all, some) (s, f, too, more) =
     let h : name ++ 93 ∷ r ≡ other ++ 93 ∷ s = cc in
-    last_one (λ b. b ≡ 93) name other 93 93 r s all too refl refl h
+    last_stop_is_unique (λ b. b ≡ 93) name other 93 93 r s all too refl refl h
 
 -- a text is the head of one section, or of none
-pub head_one : (d : Dialect) (text name other : List ℕ) → IsHead d text name → IsHead d text other
+pub section_head_is_unique : (d : Dialect) (text name other : List ℕ) → IsHead d text name
+    → IsHead d text other
     → name ≡ other
-head_one d text name other (inl (so, is)) (inl (so', at)) = section_one text name other is at
-head_one d text name other (inl (so, is)) (inr (so', at)) = absurd (unlike so so')
-head_one d text name other (inr (so, is)) (inl (so', at)) = absurd (unlike so' so)
-head_one d text name other (inr (so, is)) (inr (so', at)) = loose_one text name other is at
+section_head_is_unique d text name other (inl (so, is)) (inl (so', at)) =
+    section_one text name other is at
+section_head_is_unique d text name other (inl (so, is)) (inr (so', at)) = absurd (unlike so so')
+section_head_is_unique d text name other (inr (so, is)) (inl (so', at)) = absurd (unlike so' so)
+section_head_is_unique d text name other (inr (so, is)) (inr (so', at)) =
+    loose_one text name other is at
 
 not_loose : (text name : List ℕ) → IsLooseSection text name → NoLoose text → ⊥
 not_loose text [] (r, e, all, some) (first, none) = omega (arith, some)
@@ -109,13 +112,14 @@ not_loose text (b ∷ name) (r, e, all, some) (first, none) =
     let P : List ℕ → Type 0 = λ l. All (IsOther 93) (drop 2 l) in
     no_stop (λ b. b ≡ 93) (name ++ (93 ∷ r)) name 93 r (subst P e none) refl refl
 
-pub no_head : (d : Dialect) (text name : List ℕ) → IsHead d text name → NoHead d text → ⊥
-no_head d text name (inl (so, (e, all, some))) (inl not) =
+pub head_excludes_no_head : (d : Dialect) (text name : List ℕ) → IsHead d text name
+    → NoHead d text → ⊥
+head_excludes_no_head d text name (inl (so, (e, all, some))) (inl not) =
     both_first (λ b. b ≡ 91) text (section_first text name [] e) not
-no_head d text name (inl (so, is)) (inr (so', none)) = unlike so so'
-no_head d text name (inr (so, (r, e, all, some))) (inl not) =
+head_excludes_no_head d text name (inl (so, is)) (inr (so', none)) = unlike so so'
+head_excludes_no_head d text name (inr (so, (r, e, all, some))) (inl not) =
     both_first (λ b. b ≡ 91) text (section_first text name r e) not
-no_head d text name (inr (so, is)) (inr (so', none)) = not_loose text name is none
+head_excludes_no_head d text name (inr (so, is)) (inr (so', none)) = not_loose text name is none
 
 -- ---- what a text that starts with a bracket is
 
@@ -128,9 +132,10 @@ loose_none (b ∷ (c ∷ bs)) inside first is none =
     (first, All-tail (IsOther 93) c bs (subst P is none))
 
 -- where a name begins
-pub head_at : (d : Dialect) (from : ℕ) (text name : List ℕ) (place : ℕ) → IsHead d text name
+pub head_is_in_brackets : (d : Dialect) (from : ℕ) (text name : List ℕ) (place : ℕ)
+    → IsHead d text name
     → place ≡ from + 1 → InBrackets from text name place
-head_at d from text name place (inl (so, (e, all, some))) p =
+head_is_in_brackets d from text name place (inl (so, (e, all, some))) p =
     ([], [], e, All-nil IsBlank, omega (arith, p))
-head_at d from text name place (inr (so, (behind, e, all, some))) p =
+head_is_in_brackets d from text name place (inr (so, (behind, e, all, some))) p =
     ([], behind, e, All-nil IsBlank, omega (arith, p))

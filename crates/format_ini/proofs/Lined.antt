@@ -11,12 +11,13 @@ use Rattle.format_ini.specs.declared.lines.Line.{Line}
 use Rattle.format_ini.specs.declared.lines.Reason.{Reason}
 use Rattle.format_ini.specs.declared.lines.State.{State}
 
-not_idle : (d : Dialect) (text : List ℕ) → 0 < length text → NotFirst (IsMark d.comments) text
+marked_text_is_not_idle : (d : Dialect) (text : List ℕ) → 0 < length text
+    → NotFirst (IsMark d.comments) text
     → IsIdle d text → ⊥
-not_idle d [] some not (inl none) = omega (arith, some)
-not_idle d [] some not (inr is) = is
-not_idle d (b ∷ bs) some not (inl none) = cc
-not_idle d (b ∷ bs) some not (inr is) = not is
+marked_text_is_not_idle d [] some not (inl none) = omega (arith, some)
+marked_text_is_not_idle d [] some not (inr is) = is
+marked_text_is_not_idle d (b ∷ bs) some not (inl none) = cc
+marked_text_is_not_idle d (b ∷ bs) some not (inr is) = not is
 
 other : {b : Bool} → b ≡ false → b ≡ true → ⊥
 other {b} e f = cc
@@ -32,7 +33,7 @@ more_line d s line kept text depth on is e h o goes some not =
       kept,
       is,
       inr (inl (
-        subst P e (not_idle d text some not),
+        subst P e (marked_text_is_not_idle d text some not),
         subst S h (sym o ∙ goes),
         ap (λ l. more l ∷ []) e,
         refl,
@@ -55,7 +56,7 @@ own_line d s line kept text depth on is e h o never some not (Ok l) own =
       kept,
       is,
       inr (inr (
-        subst P e (not_idle d text some not),
+        subst P e (marked_text_is_not_idle d text some not),
         other (subst S h (sym o ∙ never)),
         subst Q e (subst R h own),
       )),
@@ -66,7 +67,7 @@ own_line d s line kept text depth on is e h o never some not (Err why) lacks =
     let S : ℕ → Type 0 = λ n. is_deeper s.pair n ≡ false in (
       kept,
       is,
-      subst P e (not_idle d text some not),
+      subst P e (marked_text_is_not_idle d text some not),
       other (subst S h (sym o ∙ never)),
       subst Q e lacks,
     )

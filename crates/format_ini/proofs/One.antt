@@ -21,7 +21,8 @@ use Rattle.format_ini.specs.declared.documents.InvalidLine.{InvalidLine}
 use Rattle.format_ini.specs.declared.lines.Reason.{Reason}
 use Rattle.format_ini.specs.declared.lines.Reason.TheVariants as why
 use Rattle.format_ini.specs.declared.lines.State.{State}
-use Rattle.format_ini.proofs.Heads.{both_first, either_first, head_one, no_head, no_stop}
+use Rattle.format_ini.proofs.Heads.{both_first, either_first, section_head_is_unique}
+use Rattle.format_ini.proofs.Heads.{head_excludes_no_head, no_stop}
 use Rattle.format_ini.proofs.Heads.{parts_one, unlike}
 use Rattle.format_ini.proofs.Runs.{line_less}
 
@@ -73,14 +74,14 @@ own_one : (d : Dialect) (s : State) (depth : ℕ) (text : List ℕ) (said other 
     (next left : State) → OwnSays d s depth text said next → OwnSays d s depth text other left
     → (said ≡ other) × (next ≡ left)
 own_one d s depth text said other next left (inl (name, is, e, n)) (inl (same, too, f, m)) =
-    let h = head_one d text name same is too in
+    let h = section_head_is_unique d text name same is too in
     (e ∙ ap (λ l. section l ∷ []) h ∙ sym f, n ∙ sym m)
 own_one d s depth text said other next left (inl (name, is, e, n))
     (inr (k, v, not, may, too, f, m)) =
-    absurd (no_head d text name is not)
+    absurd (head_excludes_no_head d text name is not)
 own_one d s depth text said other next left (inr (k, v, not, may, too, f, m))
     (inl (name, is, e, n)) =
-    absurd (no_head d text name is not)
+    absurd (head_excludes_no_head d text name is not)
 own_one d s depth text said other next left (inr (k, v, not, may, is, e, n))
     (inr (k', v', not', may', too, f, m)) =
     let (hk, hv) = pair_one d text k k' v v' is too in (
@@ -208,7 +209,7 @@ none_own d s depth text said next reason (inl (first, so, lacks))
     (inr (k, v, inr (so', not), may, is, e, n)) = unlike so so'
 none_own d s depth text said next reason (inr (not, lacks))
     (inl (name, is, e, n)) =
-    no_head d text name is not
+    head_excludes_no_head d text name is not
 none_own d s depth text said next reason (inr (not, inl (same, never)))
     (inr (k, v, first, may, is, e, n)) = never may
 none_own d s depth text said next reason (inr (not, inr (may, lacks)))

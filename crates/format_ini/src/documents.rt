@@ -58,7 +58,7 @@ impl<'i> Entries<'i> {
     {
         Entries {
             dialect,
-            rest: skip_mark(text),
+            rest: skip_byte_order_mark(text),
             state: State {
                 section: false,
                 pair: None,
@@ -90,7 +90,7 @@ impl<'i> Entries<'i> {
 }
 
 // Skips a byte order mark at the start of `text`.
-fn skip_mark(text: &str) -> &str
+fn skip_byte_order_mark(text: &str) -> &str
     ensures { BehindMark text.now result.now }
 {
     match text.strip_prefix('\u{feff}') {

@@ -10,7 +10,7 @@ use Rattle.machines.specs.Paths.{path_after, shorter}
 use Rattle.machines.proofs.Extents.{tells}
 use Rattle.streams.specs.Equal.{true_is_false}
 use Rattle.winnow_machines.specs.Scan.{Tells}
-use Rattle.winnow_machines.specs.Word.{IsOpen, words}
+use Rattle.winnow_machines.specs.Word.{IsProperPrefix, words}
 use Rattle.winnow_machines.specs.declared.word.Found.TheVariants.{Invalid, Open}
 use Rattle.winnow_machines.specs.declared.word.Found.TheVariants.{Word as word_read}
 
@@ -59,7 +59,7 @@ module _ {S : Type 0} (g : Grammar S) (laws : Lawful g) {from to : S} {bytes lef
   all_passed none = reached.splits ∙ ap (λ l. reached.front ++ l) none ∙ append-nil reached.front
 
   -- some longer input is a word
-  longer_is : left ≡ [] → HasNonEmpty (g.residual to) → IsOpen (words g) bytes
+  longer_is : left ≡ [] → HasNonEmpty (g.residual to) → IsProperPrefix (words g) bytes
   longer_is none some =
       tells g laws to (length bytes - length left) bytes left reached.front reached.splits behind
       (sym as_many) past.1 (Ok None) (none, some)

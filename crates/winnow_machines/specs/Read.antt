@@ -12,7 +12,7 @@ use Rattle.parser_definitions.specs.Does.{Ran}
 use Rattle.parser_definitions.specs.Inversion.Outcomes.{same_took}
 use Rattle.parser_definitions.specs.Left.{left_of}
 use Rattle.parser_definitions.specs.Outcome.{Outcome, backs, outcome_of}
-use Rattle.winnow_machines.specs.Word.{IsOpen, IsWord, WordDoes}
+use Rattle.winnow_machines.specs.Word.{IsProperPrefix, IsWord, WordDoes}
 
 -- The longest word, which no longer input changes; or no word continues with some byte, and nothing
 -- is consumed; or some longer input is a word.
@@ -22,7 +22,7 @@ WordRead reading L tokens (Ok slice) rest =
 WordRead reading L tokens (Err backtrack) rest =
     ((n : ℕ) × FirstInvalid L tokens n) × (rest ≡ tokens)
 WordRead reading L tokens (Err cut) rest = ⊥
-WordRead reading L tokens (Err (incomplete need)) rest = IsOpen L tokens
+WordRead reading L tokens (Err (incomplete need)) rest = IsProperPrefix L tokens
 WordRead reading L tokens (Err memory) rest = ⊥
 
 same_backs : {L O : Type 0} {a b : L} → ◌≡◌ {A = Outcome L O} (backs a) (backs b) → a ≡ b

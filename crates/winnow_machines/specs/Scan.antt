@@ -2,7 +2,7 @@
 use Rattle.std.specs.Prelude.{◌≡◌, ℕ, Bool, false, List, length}
 use Rattle.machines.specs.Grammar.{FirstInvalid}
 use Rattle.machines.specs.Languages.{Language}
-use Rattle.winnow_machines.specs.Word.{IsOpen, IsWord}
+use Rattle.winnow_machines.specs.Word.{IsProperPrefix, IsWord}
 use Rattle.winnow_machines.specs.declared.word.Found.{Found}
 use Rattle.winnow_machines.specs.declared.word.Found.TheVariants.{Invalid, Open}
 use Rattle.winnow_machines.specs.declared.word.Found.TheVariants.{Word as word_read}
@@ -12,5 +12,5 @@ use Rattle.winnow_machines.specs.declared.word.Found.TheVariants.{Word as word_r
 abbrev pub Tells : Language → Bool → List ℕ → Found → Type 0
 Tells L more bytes (word_read n) =
     (front : List ℕ) × (left : List ℕ) × IsWord L more bytes front left × (n ≡ length front)
-Tells L more bytes Open = IsOpen L bytes × (more ≡ false → L bytes → ⊥)
+Tells L more bytes Open = IsProperPrefix L bytes × (more ≡ false → L bytes → ⊥)
 Tells L more bytes Invalid = (n : ℕ) × FirstInvalid L bytes n

@@ -27,13 +27,13 @@ pub record IsWord (L : Language) (more : Bool) (bytes front left : List ℕ) : T
   pub ends : NoneLonger L front left ⊎ ((left ≡ []) × (more ≡ false))
 
 -- Some longer input is a word.
-abbrev pub IsOpen : Language → List ℕ → Type 0
-IsOpen L bytes = (b : ℕ) × (word : List ℕ) × L (bytes ++ b ∷ word)
+abbrev pub IsProperPrefix : Language → List ℕ → Type 0
+IsProperPrefix L bytes = (b : ℕ) × (word : List ℕ) × L (bytes ++ b ∷ word)
 
 -- No word continues with some byte; or the bytes begin a word, are none, and no more may come.
 abbrev pub HasNone : Language → Bool → List ℕ → Type 0
 HasNone L more bytes =
-    ((n : ℕ) × FirstInvalid L bytes n) ⊎ ((more ≡ false) × (L bytes → ⊥) × IsOpen L bytes)
+    ((n : ℕ) × FirstInvalid L bytes n) ⊎ ((more ≡ false) × (L bytes → ⊥) × IsProperPrefix L bytes)
 
 module _ {X S : Type 0} (reading : Reading ℕ S) (language : X → Language) where
   -- The longest word is taken, and a slice shows it.
@@ -44,7 +44,7 @@ module _ {X S : Type 0} (reading : Reading ℕ S) (language : X → Language) wh
 
   -- More bytes may come, and some may be in the word.
   abbrev pub IsUnfinished : X → Setting → Left ℕ → Type 0
-  IsUnfinished x at w = IsOpen (language x) w.tokens × (at.more ≡ true)
+  IsUnfinished x at w = IsProperPrefix (language x) w.tokens × (at.more ≡ true)
 
   abbrev pub WordDoes : Does X ℕ S
   WordDoes = OneCase (TakesWhere TakesWord)
@@ -82,7 +82,7 @@ module _ (L : Language) where
 
   -- where a word was, no longer input is one
   pub word_or_open : {more : Bool} {bytes f l : List ℕ} → IsWord L more bytes f l
-      → more ≡ true → IsOpen L bytes → ⊥
+      → more ≡ true → IsProperPrefix L bytes → ⊥
   word_or_open {more} {bytes} {f} {l} one is (b, word, longer) =
       by l refl (subst L (ap (λ h. h ++ b ∷ word) one.splits ∙ append_assoc f l (b ∷ word)) longer)
     where
@@ -115,7 +115,7 @@ module _ (L : Language) where
           (subst L (ap (λ h. h ++ bad.more) is ∙ append_assoc f (b ∷ others) bad.more) bad.live)
 
   pub word_or_short : {more : Bool} {bytes f l : List ℕ} → IsWord L more bytes f l
-      → (L bytes → ⊥) → IsOpen L bytes → ⊥
+      → (L bytes → ⊥) → IsProperPrefix L bytes → ⊥
   word_or_short {bytes = bytes} {f} {l} one not (b, word, longer) =
       by l refl (subst L (ap (λ h. h ++ b ∷ word) one.splits ∙ append_assoc f l (b ∷ word)) longer)
     where
@@ -124,7 +124,8 @@ module _ (L : Language) where
           not (subst L (sym (one.splits ∙ ap (λ h. f ++ h) none ∙ append-nil f)) one.word)
       by (c ∷ left) some longer = stops one c left (left ++ b ∷ word) some longer
 
-  pub open_or_invalid : {bytes : List ℕ} {n : ℕ} → FirstInvalid L bytes n → IsOpen L bytes → ⊥
+  pub open_or_invalid : {bytes : List ℕ} {n : ℕ} → FirstInvalid L bytes n
+      → IsProperPrefix L bytes → ⊥
   open_or_invalid bad (b, word, longer) = bad.never (bad.left ++ b ∷ word)
       (subst L (ap (λ h. h ++ b ∷ word) bad.splits
       ∙ append_assoc bad.front (bad.byte ∷ bad.left) (b ∷ word)) longer)

@@ -1,7 +1,8 @@
 use Rattle.std.proofs.Common.{◌∙◌, arith, inr, refl, sym}
-use Rattle.format_csv_records.proofs.Finding.{found_over, grew_more, grew_none, of_more, of_same}
+use Rattle.format_csv_records.proofs.Finding.{found_over, grew_more, grew_none, state_on_more_bytes}
+use Rattle.format_csv_records.proofs.Finding.{state_on_same_bytes}
 use Rattle.format_csv_records.proofs.Finding.{small_more, small_none}
-use Rattle.format_csv_records.proofs.Finding.{err_in, no_err}
+use Rattle.format_csv_records.proofs.Finding.{same_error, ok_is_not_err}
 use Rattle.format_csv_records.specs.declared.error.ReadError.TheVariants.{OutOfMemory}
 use Rattle.format_csv_records.proofs.finds.find.Goals as goal
 
@@ -16,7 +17,7 @@ pub look-requires : goal.look-requires
 look-requires g c = rw c.held.ensures c.loop-found.invariant.of
 
 pub returns-in-Some-clause-of : goal.returns-in-Some-clause-of
-returns-in-Some-clause-of g c = of_same _ _ _ _ c.held.ensures c.in-Some.ensures.kept
+returns-in-Some-clause-of g c = state_on_same_bytes _ _ _ _ c.held.ensures c.in-Some.ensures.kept
 
 pub returns-in-Some-clause-grew : goal.returns-in-Some-clause-grew
 returns-in-Some-clause-grew g c = c.loop-found.invariant.grew
@@ -29,7 +30,7 @@ returns-in-Some-clause-small g c = c.loop-found.invariant.small
 
 pub returns-then-count-eq0-clause-of : goal.returns-then-count-eq0-clause-of
 returns-then-count-eq0-clause-of g c =
-    of_more _ _ _ _ _ _ c.held.ensures c.in-None.ensures.kept c.in-Ok.ensures.grew.grew
+    state_on_more_bytes _ _ _ _ _ _ c.held.ensures c.in-None.ensures.kept c.in-Ok.ensures.grew.grew
 
 pub returns-then-count-eq0-clause-grew : goal.returns-then-count-eq0-clause-grew
 returns-then-count-eq0-clause-grew g c =
@@ -50,7 +51,8 @@ loop-found-smaller g c =
 
 pub loop-found-preserved : goal.loop-found-preserved
 loop-found-preserved g c = record {
-  of = of_more _ _ _ _ _ _ c.held.ensures c.in-None.ensures.kept c.in-Ok.ensures.grew.grew;
+  of = state_on_more_bytes _ _ _ _ _ _ c.held.ensures c.in-None.ensures.kept
+      c.in-Ok.ensures.grew.grew;
   grew = grew_more _ _ _ _ _ _ c.loop-found.invariant.grew c.in-Ok.ensures.grew;
   small = small_more _ _ _ _ _ _ _ c.in-Ok.ensures.grew.grew
       (rw c.held.ensures at c.in-None.ensures.found).1 c.loop-found.invariant.small
@@ -59,7 +61,7 @@ loop-found-preserved g c = record {
 
 pub returns-in-Err-clause-of : goal.returns-in-Err-clause-of
 returns-in-Err-clause-of g c =
-    of_more _ _ _ _ _ _ c.held.ensures c.in-None.ensures.kept c.in-Err.ensures.grew.grew
+    state_on_more_bytes _ _ _ _ _ _ c.held.ensures c.in-None.ensures.kept c.in-Err.ensures.grew.grew
 
 pub returns-in-Err-clause-grew : goal.returns-in-Err-clause-grew
 returns-in-Err-clause-grew g c =
@@ -78,11 +80,11 @@ returns-in-Err-clause-small g c =
     c.in-Err.ensures.size
 
 pub returns-in-Some-clause-full : goal.returns-in-Some-clause-full
-returns-in-Some-clause-full g c = λ e. no_err e
+returns-in-Some-clause-full g c = λ e. ok_is_not_err e
 
 pub returns-then-count-eq0-clause-full : goal.returns-then-count-eq0-clause-full
-returns-then-count-eq0-clause-full g c = λ e. no_err e
+returns-then-count-eq0-clause-full g c = λ e. ok_is_not_err e
 
 pub returns-in-Err-clause-full : goal.returns-in-Err-clause-full
 returns-in-Err-clause-full g c = λ e.
-    err_in _ _ c.in-Err.error OutOfMemory refl refl e c.in-Err.ensures.full
+    same_error _ _ c.in-Err.error OutOfMemory refl refl e c.in-Err.ensures.full

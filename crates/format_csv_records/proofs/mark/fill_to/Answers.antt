@@ -1,6 +1,6 @@
 use Rattle.std.proofs.Common.{ap, arith, inl, inr, length, refl}
 use Rattle.format_csv_records.proofs.Finding.{grew_more, grew_none}
-use Rattle.format_csv_records.proofs.Finding.{err_in, no_err}
+use Rattle.format_csv_records.proofs.Finding.{same_error, ok_is_not_err}
 use Rattle.format_csv_records.specs.declared.error.ReadError.TheVariants.{OutOfMemory}
 use Rattle.format_csv_records.proofs.mark.fill_to.Goals as goal
 
@@ -36,11 +36,11 @@ pub returns-in-Err-clause-told : goal.returns-in-Err-clause-told
 returns-in-Err-clause-told g c = c.in-Err.ensures.told.0
 
 pub returns-then-held-count-clause-full : goal.returns-then-held-count-clause-full
-returns-then-held-count-clause-full g c = λ e. no_err e
+returns-then-held-count-clause-full g c = λ e. ok_is_not_err e
 
 pub returns-then-more-eq0-clause-full : goal.returns-then-more-eq0-clause-full
-returns-then-more-eq0-clause-full g c = λ e. no_err e
+returns-then-more-eq0-clause-full g c = λ e. ok_is_not_err e
 
 pub returns-in-Err-clause-full : goal.returns-in-Err-clause-full
 returns-in-Err-clause-full g c = λ e.
-    err_in _ _ c.in-Err.error OutOfMemory refl refl e c.in-Err.ensures.full
+    same_error _ _ c.in-Err.error OutOfMemory refl refl e c.in-Err.ensures.full

@@ -2,7 +2,7 @@ use Rattle.std.proofs.Common.{[], refl, sym, ap, ◌∙◌, ◌++◌}
 use Rattle.std.proofs.lemmas.List.{append-nil}
 use Rattle.std.proofs.lemmas.Result.{on_ok_weaker}
 use Rattle.format_csv_records.proofs.Alone.{doubled_none}
-use Rattle.format_csv_records.proofs.Writing.{kept_after, kept_all, write_end, write_more}
+use Rattle.format_csv_records.proofs.Writing.{kept_after, same_text_extends, write_end, write_more}
 use Rattle.format_csv_records.proofs.write.write_doubled.Goals as goal
 
 pub runs-init : goal.runs-init
@@ -29,12 +29,13 @@ returns-then-run-rest-clause-kept g c =
 
 pub returns-in_err-extend_from_slice-clause-kept : goal.returns-in_err-extend_from_slice-clause-kept
 returns-in_err-extend_from_slice-clause-kept g c =
-    kept_after _ _ _ _ c.runs.invariant.2 (kept_all _ _ c.in_err-extend_from_slice.ensures.items)
+    kept_after _ _ _ _ c.runs.invariant.2
+    (same_text_extends _ _ c.in_err-extend_from_slice.ensures.items)
 
 pub returns-in_err-extend_from_slice-2-clause-kept
     : goal.returns-in_err-extend_from_slice-2-clause-kept
 returns-in_err-extend_from_slice-2-clause-kept g c =
-    kept_after _ _ _ _ c.runs.invariant.2 (kept_all _ _
+    kept_after _ _ _ _ c.runs.invariant.2 (same_text_extends _ _
     c.in_err-extend_from_slice-2.ensures.items)
 
 pub returns-in_err-put-clause-kept : goal.returns-in_err-put-clause-kept

@@ -1,7 +1,7 @@
 use Rattle.std.proofs.Common.{[], ◌∷◌, ◌++◌, refl, ap, inr, ◌∙◌, append_assoc}
 use Rattle.std.proofs.lemmas.Result.{on_ok_weaker}
 use Rattle.format_csv_records.specs.Dialects.{doubled}
-use Rattle.format_csv_records.proofs.Writing.{kept_added, kept_after, not_all}
+use Rattle.format_csv_records.proofs.Writing.{kept_added, kept_after, fewer_are_not_all}
 use Rattle.format_csv_records.proofs.write.write_field.Goals as goal
 
 pub returns-clause-done : goal.returns-clause-done
@@ -12,7 +12,7 @@ returns-clause-done g c =
       q ∷ text,
       inr (
         refl,
-        not_all _ _ _ c.plain_len.ensures c.if-plain_len-field.false,
+        fewer_are_not_all _ _ _ c.plain_len.ensures c.if-plain_len-field.false,
       ),
       e ∙ ap (λ l. l ++ text) c.in_ok-put.ensures.done
           ∙ append_assoc c.args.out.now.items (q ∷ []) text,

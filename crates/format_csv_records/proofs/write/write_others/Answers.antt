@@ -1,7 +1,7 @@
 use Rattle.std.proofs.Common.{◌≡◌, List, ℕ, [], ◌∷◌, ◌++◌, refl, sym, ap, subst, ◌∙◌, append_assoc}
 use Rattle.std.proofs.lemmas.List.{append-nil}
 use Rattle.format_csv_records.specs.Written.{Wrote}
-use Rattle.format_csv_records.proofs.Writing.{bytes_more, kept_after, kept_on, wrote_more}
+use Rattle.format_csv_records.proofs.Writing.{bytes_more, kept_after, extends_in_turn, wrote_more}
 use Rattle.format_csv_records.proofs.write.write_others.Goals as goal
 
 pub loop-field-init : goal.loop-field-init
@@ -28,7 +28,8 @@ returns-in_err-write_field-clause-kept g c =
 
 pub returns-in_err-put-clause-kept : goal.returns-in_err-put-clause-kept
 returns-in_err-put-clause-kept g c =
-    kept_after _ _ _ _ c.loop-field.invariant.2 (kept_on _ _ _ c.in_ok-write_field.ensures.kept
+    kept_after _ _ _ _ c.loop-field.invariant.2
+    (extends_in_turn _ _ _ c.in_ok-write_field.ensures.kept
     c.in_err-put.ensures.kept)
 
 pub returns-clause-kept : goal.returns-clause-kept

@@ -1,6 +1,6 @@
 use Rattle.std.proofs.Common.{List, ℕ, subst, ◌∙◌}
 use Rattle.format_csv_records.specs.Written.{Writes}
-use Rattle.format_csv_records.proofs.Writing.{bytes_last, front_of, reads_back}
+use Rattle.format_csv_records.proofs.Writing.{bytes_last, front_of_extension, reads_back}
 use Rattle.format_csv_records.proofs.write.write_record.Goals as goal
 
 pub returns-in-Ok : goal.returns-in-Ok
@@ -12,5 +12,5 @@ returns-in-Ok g c =
 
 pub returns-in-Err : goal.returns-in-Err
 returns-in-Err g c =
-    front_of _ _ _ _ c.in-Err.ensures.kept (c.len-start.ensures ∙ c.args.out.now.ok.0)
+    front_of_extension _ _ _ _ c.in-Err.ensures.kept (c.len-start.ensures ∙ c.args.out.now.ok.0)
     c.truncate.ensures.items

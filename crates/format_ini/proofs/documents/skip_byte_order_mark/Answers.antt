@@ -1,6 +1,6 @@
 use lib.Utf8.{encode}
 use Rattle.std.proofs.Common.{◌∷◌, ◌∙◌, ap, inl, inr, refl, sym}
-use Rattle.format_ini.proofs.documents.skip_mark.Goals as goal
+use Rattle.format_ini.proofs.documents.skip_byte_order_mark.Goals as goal
 
 pub returns-in-Some : goal.returns-in-Some
 unfolding encode

@@ -1,6 +1,6 @@
 use Rattle.std.proofs.Common.{ap, arith, inl, inr, refl}
 use Rattle.format_csv_records.proofs.Telling.{all_of_reads, answer_taken, failed, reads}
-use Rattle.format_csv_records.proofs.Finding.{err_in}
+use Rattle.format_csv_records.proofs.Finding.{same_error}
 use Rattle.format_csv_records.specs.declared.error.ReadError.TheVariants.{OutOfMemory}
 use Rattle.format_csv_records.proofs.reader.Reader.next_record.Goals as goal
 
@@ -72,4 +72,4 @@ returns-in-Ok-Never-clause-full g c = λ e. absurd (cc)
 
 pub returns-in-Err-clause-full : goal.returns-in-Err-clause-full
 returns-in-Err-clause-full g c = λ e.
-    inl (err_in _ _ c.in-Err.error OutOfMemory refl refl e c.in-Err.ensures.full)
+    inl (same_error _ _ c.in-Err.error OutOfMemory refl refl e c.in-Err.ensures.full)

@@ -1,6 +1,6 @@
 use Rattle.std.proofs.Common.{arith, refl}
 use Rattle.format_csv_records.proofs.Finding.{mark_long, reads_none, reads_nothing, reads_some}
-use Rattle.format_csv_records.proofs.Finding.{err_in, no_err}
+use Rattle.format_csv_records.proofs.Finding.{same_error, ok_is_not_err}
 use Rattle.format_csv_records.specs.declared.error.ReadError.TheVariants.{OutOfMemory}
 use Rattle.format_csv_records.proofs.reader.Reader.pass_mark.Goals as goal
 
@@ -34,11 +34,11 @@ returns-in-Err-clause-reads g c =
     (reads_nothing _ _ _ _ _ c.in-Err.ensures.grew _ c.in-Err.ensures.told (omega arith))
 
 pub returns-in-None-clause-full : goal.returns-in-None-clause-full
-returns-in-None-clause-full g c = λ e. no_err e
+returns-in-None-clause-full g c = λ e. ok_is_not_err e
 
 pub returns-in-Some-clause-full : goal.returns-in-Some-clause-full
-returns-in-Some-clause-full g c = λ e. no_err e
+returns-in-Some-clause-full g c = λ e. ok_is_not_err e
 
 pub returns-in-Err-clause-full : goal.returns-in-Err-clause-full
 returns-in-Err-clause-full g c = λ e.
-    err_in _ _ c.in-Err.error OutOfMemory refl refl e c.in-Err.ensures.full
+    same_error _ _ c.in-Err.error OutOfMemory refl refl e c.in-Err.ensures.full

@@ -2,13 +2,14 @@ use Rattle.std.proofs.Common.{arith, inl, inr, refl}
 use Rattle.std.proofs.Common.{length-append}
 use Rattle.std.proofs.lemmas.Bool.{cases_Bool}
 use Rattle.std.specs.Result.{is_ok}
-use Rattle.format_csv_records.proofs.Cuts.{begun_more, cut_more, rises_last, rises_more}
+use Rattle.format_csv_records.proofs.Cuts.{begun_more, cut_ignores_more_bytes, rises_last}
+use Rattle.format_csv_records.proofs.Cuts.{rises_more}
 use Rattle.format_csv_records.proofs.record.ByteRecordFieldSink.add.Goals as goal
 
 pub returns-clause-fields : goal.returns-clause-fields
 returns-clause-fields g c = elim (cases_Bool (is_ok c.extend_from_slice.result)) [
   | inl good ↦ rw (← c.self.view_is, rw good at c.extend_from_slice.ensures.items)
-      (cut_more _ _ _ _ c.self.invariant)
+      (cut_ignores_more_bytes _ _ _ _ c.self.invariant)
   | inr bad ↦ rw (← c.self.view_is, rw bad at c.extend_from_slice.ensures.items) refl
 ]
 

@@ -2,7 +2,7 @@ use Rattle.std.proofs.Common.{◌≡◌, ◌++◌, ◌∷◌, [], length, ◌∙
 use Rattle.std.proofs.lemmas.List.{drop_all}
 use Rattle.std.proofs.lemmas.Bool.{cases_Bool}
 use Rattle.std.specs.Result.{is_ok}
-use Rattle.format_csv_records.proofs.Cuts.{cut_end, last_append, rises_end}
+use Rattle.format_csv_records.proofs.Cuts.{cut_with_last_field, last_append, rises_end}
 use Rattle.format_csv_records.proofs.record.ByteRecordFieldSink.end_field.Goals as goal
 use Rattle.format_csv_records.proofs.record.ByteRecordFieldSink.end_field.Goals.{in-Ok, in-Err}
 
@@ -14,7 +14,7 @@ returns-clause-fields g c = elim c.match-push.branch [
       let e : c.push.new.self.items
       ≡ c.self.inside.ends.items ++ (length c.self.inside.bytes.items ∷ []) =
       rw size at w.in-Ok.ensures.items in
-      rw (w.result-is, ← c.self.view_is, e) (cut_end _ _ _ c.self.invariant)
+      rw (w.result-is, ← c.self.view_is, e) (cut_with_last_field _ _ _ c.self.invariant)
   | in-Err w ↦ rw w.result-is tt
 ]
 
