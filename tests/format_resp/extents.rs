@@ -164,28 +164,32 @@ fn advance_of_open_ones(rt: HostRuntime) {
     }
 }
 
-/// The head of an array of 100,000 elements, and `count` bulk strings of 20 bytes.
+/// The head of an array of 1,000 elements, and `count` bulk strings of 20 bytes.
 fn large_array<A: Allocator>(alloc: A, count: usize) -> Result<Vec<u8, A>, AllocError> {
     let mut bytes = Vec::new(alloc);
-    bytes.extend_from_slice(b"*100000\r\n".as_slice())?;
+    bytes.extend_from_slice(b"*1000\r\n".as_slice())?;
     for _ in 0..count {
         bytes.extend_from_slice(b"$20\r\n01234567890123456789\r\n".as_slice())?;
     }
     Ok(bytes)
 }
 
-/// In pieces of 1,460 bytes: were each byte looked at again in each, this would take minutes.
+/// In pieces of 146 bytes. What was passed is overwritten: no byte of it is looked at again.
 #[test]
 fn advance_of_many_pieces(rt: HostRuntime) {
-    let Ok(bytes) = large_array(rt.alloc(), 100000) else {
+    let Ok(mut bytes) = large_array(rt.alloc(), 1000) else {
         same(&rt, b"", true, false);
         return;
     };
     let mut extent = Extent::new();
-    let mut there = 0;
-    while there + 1460 < bytes.len() {
-        there += 1460;
+    let (mut there, mut gone) = (0, 0);
+    while there + 146 < bytes.len() {
+        there += 146;
         same(&rt, b"", extent.advance(Protocol::Resp2, &bytes[..there]), Ok(None));
+        while gone < extent.passed {
+            bytes[gone] = b'?';
+            gone += 1;
+        }
     }
-    same(&rt, b"", extent.advance(Protocol::Resp2, bytes.as_slice()), Ok(Some(2700009)));
+    same(&rt, b"", extent.advance(Protocol::Resp2, bytes.as_slice()), Ok(Some(27007)));
 }

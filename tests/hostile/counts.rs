@@ -1,4 +1,4 @@
-//! How often children are run on long inputs, up to 1 MiB: as often as there are units, and a few
+//! How often children are run on long inputs, up to 128 KiB: as often as there are units, and a few
 //! times more.
 use crate::common::counting;
 use std::alloc::Global;
@@ -20,10 +20,10 @@ use winnow_separated::combinator::{separated, separated_foldl1, separated_foldr1
 use winnow_token::token::impls::Any;
 
 /// The bytes of the longest inputs.
-const SIZE: usize = 1 << 20;
+const SIZE: usize = 1 << 17;
 
 /// The bytes of the others, where each takes more time.
-const FEWER: usize = 1 << 18;
+const FEWER: usize = 1 << 15;
 
 /// How often a part of an expression occurs in its input.
 const OPERATORS: usize = 1 << 12;

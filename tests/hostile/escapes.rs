@@ -129,7 +129,7 @@ fn control_that_wants_memory(rt: HostRuntime) {
 /// So many escapes run the children once each, and once more where something else follows.
 #[test]
 fn take_escaped_of_many(rt: HostRuntime) -> Result<(), Fail> {
-    let count = 1 << 18;
+    let count = 1 << 15;
     let bytes = times(rt.alloc(), (b"", b"\\na", count, b";"))?;
     let runs = [Cell::new(0), Cell::new(0), Cell::new(0)];
     let mut parser: TakeEscaped<_, _, _, &[u8], u8, u8, u8, EmptyError> = take_escaped(
@@ -149,7 +149,7 @@ fn take_escaped_of_many(rt: HostRuntime) -> Result<(), Fail> {
 /// The same where outputs are counted.
 #[test]
 fn escaped_of_many(rt: HostRuntime) -> Result<(), Fail> {
-    let count = 1 << 18;
+    let count = 1 << 15;
     let bytes = times(rt.alloc(), (b"", b"\\na", count, b";"))?;
     let runs = [Cell::new(0), Cell::new(0), Cell::new(0)];
     let mut parser: Escaped<_, _, _, &[u8], u8, u8, u8, usize, EmptyError, Global> = escaped(

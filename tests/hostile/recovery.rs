@@ -12,7 +12,7 @@ use winnow_token::token::take_while;
 /// A parser that fails at each of many words is tried once a word, and once more.
 #[test]
 fn retry_after_of_many(rt: HostRuntime) -> Result<(), Fail> {
-    let count = 1 << 16;
+    let count = 1 << 13;
     let mut text = String::new(rt.alloc());
     for _ in 0..count {
         text.push_str("ab,")?;
