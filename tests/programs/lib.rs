@@ -1,8 +1,11 @@
 //! Small programs as a user writes them, a function for each rule, without contracts, and their
 //! tests. They parse a web server's log, a configuration of nginx, PNG, DOT, URIs, dates, formulas,
-//! filters, lists of hosts, `/etc/passwd`, and MQTT.
+//! filters, lists of hosts, `/etc/passwd`, and MQTT; arithmetic, JSON and heads of HTTP are ports of
+//! the programs in `docs/ports`.
 #![tactic(auto)]
 
+#[cfg(test)]
+mod arithmetic;
 #[cfg(test)]
 mod config;
 #[cfg(test)]
@@ -15,6 +18,10 @@ mod filters;
 mod formula;
 #[cfg(test)]
 mod hosts;
+#[cfg(test)]
+mod http;
+#[cfg(test)]
+mod json;
 #[cfg(test)]
 mod log;
 #[cfg(test)]
