@@ -3,7 +3,10 @@ use std::alloc::Global;
 use test_support::refusing::Refusing;
 use winnow::ascii::impls::{Alpha1, DecUint, Digit1};
 use winnow::combinator::{alt, cut_err, opt, repeat};
-use winnow::error::{ContextError, EmptyError, ErrMode, ExpectedError, InputError, OrNoMemory, ParseFault};
+use winnow::error::{
+    ContextError, EmptyError, ErrMode, ErrorConvert, ExpectedError, InputError, OrNoMemory,
+    ParseFault,
+};
 use winnow::prelude::*;
 use winnow::stream::position_of;
 use winnow::token::impls::Any;
@@ -145,4 +148,29 @@ fn errors_are_converted(rt: HostRuntime) {
     let mut read = Digit1.map_err(|error: Fails| error.cut());
     let got: Result<&str, Fails> = read.parse_next(&mut input);
     assert!(rt; matches!(got, Err(ErrMode::Cut(_))));
+}
+
+#[test]
+fn plain_errors_are_empty(rt: HostRuntime) {
+    let read: Result<&str, EmptyError> = Alpha1.parse_next(&mut "1");
+    assert!(rt; read.is_err());
+    let said: Result<&str, &'static str> = read.map_err(|_| "a word");
+    assert_eq!(rt; said, Err("a word"));
+}
+
+#[test]
+fn contexts_are_a_slice(rt: HostRuntime) {
+    let alloc = rt.alloc();
+    let mut word = Alpha1.context(alloc, "a word").context(alloc, "a line");
+    let read: Result<&str, Message> = word.parse_next(&mut "1");
+    match read {
+        Err(error) => assert_eq!(rt; error.context(), ["a word", "a line"].as_slice()),
+        Ok(_) => assert!(rt; false, "it is parsed"),
+    }
+}
+
+#[test]
+fn inputs_are_converted(rt: HostRuntime) {
+    let error: InputError<&str> = ErrorConvert::convert(InputError::at("ab"));
+    assert_eq!(rt; error.input, "ab");
 }

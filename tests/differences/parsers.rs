@@ -2,12 +2,12 @@
 use std::alloc::Global;
 use winnow::ascii::alpha1;
 use winnow::ascii::impls::{Alpha1, DecUint, Digit1};
-use winnow::combinator::{opt, separated_pair};
+use winnow::combinator::{fail, opt, separated_pair};
 use winnow::error::{EmptyError, ErrMode, Needed, ParseFault};
 use winnow::{Func, FuncWith, parsers};
 use winnow::prelude::*;
 use winnow::stream::Partial;
-use winnow::token::take;
+use winnow::token::{one_of, take};
 
 type Fails = ErrMode<EmptyError>;
 
@@ -82,4 +82,31 @@ fn verify_takes_the_output(rt: HostRuntime) {
         .verify(|slice: &&[u8]| slice.len() > 1)
         .parse_next(&mut input);
     assert_eq!(rt; read.ok(), Some(b"ab".as_slice()));
+}
+
+#[test]
+fn outputs_are_converted(rt: HostRuntime) {
+    let number = DecUint.map(|number: u32| number);
+    let read: Result<u64, Fails> = number.output_into().parse_next(&mut "12");
+    assert_eq!(rt; read.ok(), Some(12));
+}
+
+fn numbered(count: &mut u32, input: &mut &str) -> Result<char, Fails> {
+    let letter = one_of('a'..='z').parse_next(input)?;
+    *count = count.saturating_add(1);
+    Ok(letter)
+}
+
+#[test]
+fn states_are_arguments(rt: HostRuntime) {
+    let mut count = 0;
+    assert_eq!(rt; numbered(&mut count, &mut "ab").ok(), Some('a'));
+    assert!(rt; numbered(&mut count, &mut "1").is_err());
+    assert_eq!(rt; count, 1);
+}
+
+#[test]
+fn todo_is_fail(rt: HostRuntime) {
+    let read: Result<(), Fails> = fail(&mut "ab");
+    assert!(rt; matches!(read, Err(ErrMode::Backtrack(_))));
 }
