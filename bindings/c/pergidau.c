@@ -98,6 +98,11 @@ uint32_t exported_http_response_head_extent(
     const uint8_t *bytes,
     size_t bytes_length,
     size_t *out);
+uint32_t exported_http_field_lines_extent(
+    struct pergidau_http_head_state *state,
+    const uint8_t *bytes,
+    size_t bytes_length,
+    size_t *out);
 uint32_t exported_http_field(
     const uint8_t *bytes,
     size_t bytes_length,
@@ -118,6 +123,12 @@ uint32_t exported_http_response_head_partial(
     struct pergidau_field *fields,
     size_t fields_length,
     struct pergidau_response_head *out);
+uint32_t exported_http_field_lines(
+    const uint8_t *bytes,
+    size_t bytes_length,
+    struct pergidau_field *fields,
+    size_t fields_length,
+    struct pergidau_http_fields *out);
 uint32_t exported_ini_next(
     struct pergidau_ini_state *state,
     const uint8_t *bytes,
@@ -1071,6 +1082,31 @@ enum pergidau_code pergidau_http_response_head_extent(
     return (enum pergidau_code)exported_http_response_head_extent(state, bytes, bytes_length, out);
 }
 
+enum pergidau_code pergidau_http_field_lines_extent(
+    struct pergidau_http_head_state *state,
+    const uint8_t *bytes,
+    size_t bytes_length,
+    size_t *out)
+{
+    const uint8_t no_bytes = {0};
+    if (state == NULL) {
+        return PERGIDAU_NULL;
+    }
+    if (bytes_length > PTRDIFF_MAX / sizeof(uint8_t)) {
+        return PERGIDAU_TOO_LONG;
+    }
+    if (bytes == NULL && bytes_length > 0) {
+        return PERGIDAU_NULL;
+    }
+    if (out == NULL) {
+        return PERGIDAU_NULL;
+    }
+    if (bytes == NULL) {
+        bytes = &no_bytes;
+    }
+    return (enum pergidau_code)exported_http_field_lines_extent(state, bytes, bytes_length, out);
+}
+
 enum pergidau_code pergidau_http_field(
     const uint8_t *bytes,
     size_t bytes_length,
@@ -1180,6 +1216,39 @@ enum pergidau_code pergidau_http_response_head_partial(
         fields = &no_fields;
     }
     return (enum pergidau_code)exported_http_response_head_partial(bytes, bytes_length, fields, fields_length, out);
+}
+
+enum pergidau_code pergidau_http_field_lines(
+    const uint8_t *bytes,
+    size_t bytes_length,
+    struct pergidau_field *fields,
+    size_t fields_length,
+    struct pergidau_http_fields *out)
+{
+    const uint8_t no_bytes = {0};
+    struct pergidau_field no_fields = {0};
+    if (bytes_length > PTRDIFF_MAX / sizeof(uint8_t)) {
+        return PERGIDAU_TOO_LONG;
+    }
+    if (bytes == NULL && bytes_length > 0) {
+        return PERGIDAU_NULL;
+    }
+    if (fields_length > PTRDIFF_MAX / sizeof(struct pergidau_field)) {
+        return PERGIDAU_TOO_LONG;
+    }
+    if (fields == NULL && fields_length > 0) {
+        return PERGIDAU_NULL;
+    }
+    if (out == NULL) {
+        return PERGIDAU_NULL;
+    }
+    if (bytes == NULL) {
+        bytes = &no_bytes;
+    }
+    if (fields == NULL) {
+        fields = &no_fields;
+    }
+    return (enum pergidau_code)exported_http_field_lines(bytes, bytes_length, fields, fields_length, out);
 }
 
 enum pergidau_code pergidau_ini_next(

@@ -850,9 +850,9 @@ struct pergidau_chunked_step {
 };
 
 /*
- * The state of a search for the end of the head of a request or a response. Only the functions
- * of this library may interpret its fields. All zeros is the initial state; start from it for
- * each head.
+ * The state of a search for the end of the head of a request or a response, or of field lines.
+ * Only the functions of this library may interpret its fields. All zeros is the initial state;
+ * start from it for each head.
  */
 struct pergidau_http_head_state {
     /* How many bytes were passed. */
@@ -879,6 +879,18 @@ struct pergidau_response_head {
     uint8_t major;
     /* The number after the point of the version, below 10. */
     uint8_t minor;
+};
+
+/* The number and the length of field lines. */
+struct pergidau_http_fields {
+    /* How many fields there are. */
+    size_t fields;
+    /* The length of the field lines in bytes, including the empty line after them. */
+    size_t length;
+    /* The offset of the error in bytes; 0 otherwise. */
+    size_t error_offset;
+    /* Why the byte at this offset is invalid; PERGIDAU_HTTP_HEAD_ERROR_NONE otherwise. */
+    enum pergidau_http_head_error error;
 };
 
 /*
@@ -1798,6 +1810,42 @@ enum pergidau_code pergidau_http_response_head_extent(
     size_t *out);
 
 /*
+ * Finds the end of field lines and the empty line after them, such as a trailer section (RFC
+ * 9112, section 7.1.2), in input that arrives in chunks, as pergidau_http_head_extent does for
+ * heads, with a state of its own. To obtain the fields, or the reason of an error, pass all
+ * bytes to pergidau_http_field_lines.
+ *
+ * For the first call, state must be all zeros. Each further call for the same field lines must
+ * have the state that the previous call left, and the bytes of the previous call followed by
+ * more bytes.
+ *
+ * PERGIDAU_DONE: bytes starts with field lines and an empty line, whose length is written.
+ * Reset the state to zeros for the next ones.
+ *
+ * PERGIDAU_INCOMPLETE: the empty line is not there yet, but more bytes can complete it. 0 is
+ * written.
+ *
+ * If state belongs to other bytes or was modified, the result may be wrong, but nothing
+ * outside bytes is read.
+ *
+ * # Errors
+ *
+ * PERGIDAU_INVALID: bytes does not start with field lines and an empty line, regardless of
+ * what follows. The first offset at which they cannot continue is written.
+ *
+ * # Safety
+ *
+ * state must be valid for reads and writes of one state, and out for writes of one length.
+ * bytes must be valid for reads of bytes_length bytes, which must not change during the call.
+ * None of these may overlap. The call needs 16 KiB of stack.
+ */
+enum pergidau_code pergidau_http_field_lines_extent(
+    struct pergidau_http_head_state *state,
+    const uint8_t *bytes,
+    size_t bytes_length,
+    size_t *out);
+
+/*
  * Finds the first field of a name among the fields that pergidau_http_head or
  * pergidau_http_response_head wrote for these bytes. Names are compared ignoring ASCII case.
  *
@@ -1892,6 +1940,45 @@ enum pergidau_code pergidau_http_response_head_partial(
     struct pergidau_field *fields,
     size_t fields_length,
     struct pergidau_response_head *out);
+
+/*
+ * Parses field lines (RFC 9112, section 5) up to the empty line after them, at the start of
+ * bytes: a trailer section (section 7.1.2) and the line ending after it. The bytes after the
+ * empty line are not read. There may be no field lines.
+ *
+ * PERGIDAU_DONE: the offsets of the fields are written, in order, and their number and length.
+ *
+ * PERGIDAU_INCOMPLETE: the empty line is not there, but more bytes can complete it. In
+ * complete input this is an error.
+ *
+ * The trailers that pergidau_http_chunked returns do not have the empty line: append a CRLF to
+ * them. The bytes are scanned once, and each call starts at the first byte. The function does
+ * not allocate.
+ *
+ * # Errors
+ *
+ * PERGIDAU_INVALID: bytes does not start with field lines and an empty line, regardless of
+ * what follows. The offset of the first invalid byte is written, and why it is invalid: the
+ * bytes before it can continue, and together with the byte there they cannot.
+ *
+ * PERGIDAU_BUFFER_TOO_SMALL: there are more fields than the buffer has entries. The number of
+ * fields is written.
+ *
+ * After any code but PERGIDAU_DONE, the contents of the buffer are unspecified, because the
+ * fields are written during parsing, and all other parts of the result are 0.
+ *
+ * # Safety
+ *
+ * bytes must be valid for reads of bytes_length bytes, which must not change during the call.
+ * fields must be valid for writes of fields_length entries, and out for writes of one result.
+ * None of these may overlap. The call needs 16 KiB of stack.
+ */
+enum pergidau_code pergidau_http_field_lines(
+    const uint8_t *bytes,
+    size_t bytes_length,
+    struct pergidau_field *fields,
+    size_t fields_length,
+    struct pergidau_http_fields *out);
 
 /*
  * Parses the next entry of an INI file in any dialect, as common in .ini, .cfg and .desktop

@@ -371,6 +371,20 @@ inline result<std::size_t> http_response_head_extent(
 }
 
 /*
+ * Finds the end of field lines and the empty line after them, such as a trailer section (RFC
+ * 9112, section 7.1.2), in input that arrives in chunks, as http_head_extent does for heads,
+ * with a state of its own.
+ */
+inline result<std::size_t> http_field_lines_extent(
+    pergidau_http_head_state &state,
+    input bytes) noexcept
+{
+    result<std::size_t> out{};
+    out.code = pergidau_http_field_lines_extent(&state, bytes.data(), bytes.size(), &out.value);
+    return out;
+}
+
+/*
  * Finds the first field of a name among the fields that http_head or http_response_head wrote
  * for these bytes.
  */
@@ -407,6 +421,20 @@ inline result<pergidau_response_head> http_response_head_partial(
 {
     result<pergidau_response_head> out{};
     out.code = pergidau_http_response_head_partial(
+        bytes.data(), bytes.size(), fields.data(), fields.size(), &out.value);
+    return out;
+}
+
+/*
+ * Parses field lines (RFC 9112, section 5) up to the empty line after them, at the start of
+ * bytes: a trailer section (section 7.1.2) and the line ending after it.
+ */
+inline result<pergidau_http_fields> http_field_lines(
+    input bytes,
+    view<pergidau_field> fields) noexcept
+{
+    result<pergidau_http_fields> out{};
+    out.code = pergidau_http_field_lines(
         bytes.data(), bytes.size(), fields.data(), fields.size(), &out.value);
     return out;
 }

@@ -450,6 +450,7 @@ static void read_all(const uint8_t *bytes, size_t length)
     read_head(bytes, length);
     read_response(bytes, length);
     read_head_extent(bytes, length);
+    read_field_lines(bytes, length);
     read_record(bytes, length);
     read_record_extent(bytes, length);
     read_reply(bytes, length);

@@ -1,5 +1,5 @@
-/* Random inputs of response heads, and of heads and records whose end is found incrementally, for
- * `fuzz.c`. */
+/* Random inputs of response heads, of field lines, and of heads and records whose end is found
+ * incrementally, for `fuzz.c`. */
 #ifndef HEADS_FUZZ_H
 #define HEADS_FUZZ_H
 
@@ -32,13 +32,14 @@ struct by_hand {
     unsigned status;
 };
 
-/* Parses byte by byte: the bytes of `form`, where 'd' is a digit; then a reason, the line ending, and
- * field lines. */
-static struct by_hand response_by_hand(const uint8_t *bytes, size_t length)
+enum due { LINE, REASON, FEED, START, NAME, VALUE, LAST, VERSION };
+
+/* Parses byte by byte, from LINE on: the bytes of `form`, where 'd' is a digit; then a reason, the line
+ * ending, and field lines; or only field lines, from START on. */
+static struct by_hand response_by_hand(enum due due, const uint8_t *bytes, size_t length)
 {
     static const char form[] = "HTTP/d.d ddd";
     struct by_hand made = {.code = PERGIDAU_INCOMPLETE};
-    enum { LINE, REASON, FEED, START, NAME, VALUE, LAST, VERSION } due = LINE;
     static const enum pergidau_http_head_error error_of[] = {
         [LINE] = PERGIDAU_HTTP_HEAD_ERROR_STATUS_CODE,
         [REASON] = PERGIDAU_HTTP_HEAD_ERROR_VALUE,
@@ -106,10 +107,22 @@ static struct by_hand response_by_hand(const uint8_t *bytes, size_t length)
     return made;
 }
 
+/* The fields are those of the bytes up to `length`. */
+static void hold_fields(const uint8_t *bytes, size_t length, const struct pergidau_field *fields, size_t count)
+{
+    for (size_t i = 0; i < count; i++) {
+        struct pergidau_span name = fields[i].name, value = fields[i].value;
+        HOLDS(within(name, length) && within(value, length) && name.length > 0);
+        HOLDS(bytes[name.offset + name.length] == ':');
+        HOLDS(name.offset + name.length < value.offset);
+        HOLDS(i == 0 || fields[i - 1].value.offset < name.offset);
+    }
+}
+
 static void read_response(const uint8_t *bytes, size_t length)
 {
     struct pergidau_response_head out, cut;
-    struct by_hand want = response_by_hand(bytes, length);
+    struct by_hand want = response_by_hand(LINE, bytes, length);
     size_t count = below(6), size = count * sizeof(struct pergidau_field);
     /* The last entry ends where the room ends. */
     struct pergidau_field *fields =
@@ -136,13 +149,45 @@ static void read_response(const uint8_t *bytes, size_t length)
     HOLDS(code == PERGIDAU_DONE && out.length == want.at && out.status == want.status);
     HOLDS(out.major == bytes[5] - '0' && out.minor == bytes[7] - '0');
     HOLDS(out.reason.offset == want.reason && out.reason.length == want.reason_length);
-    for (size_t i = 0; i < out.fields; i++) {
-        struct pergidau_span name = fields[i].name, value = fields[i].value;
-        HOLDS(within(name, out.length) && within(value, out.length) && name.length > 0);
-        HOLDS(bytes[name.offset + name.length] == ':');
-        HOLDS(name.offset + name.length < value.offset);
-        HOLDS(i == 0 || fields[i - 1].value.offset < name.offset);
+    hold_fields(bytes, out.length, fields, out.fields);
+}
+
+/* Field lines, from a line of the input on. */
+static void read_field_lines(const uint8_t *bytes, size_t length)
+{
+    const uint8_t *line = length > 0 && below(2) ? memchr(bytes, '\n', length) : NULL;
+    size_t passed = line ? (size_t)(line - bytes) + 1 : 0, count = below(4), end = 0, have = 0;
+    bytes += passed;
+    length -= passed;
+    struct by_hand want = response_by_hand(START, bytes, length);
+    struct pergidau_http_fields out;
+    for (bool is_exact = false;; is_exact = true) {
+        /* The last entry ends where the room ends. */
+        struct pergidau_field *fields = (struct pergidau_field *)(void *)(buffer_room + PAGES * page
+                                                                          - count * sizeof *fields);
+        enum pergidau_code code = pergidau_http_field_lines(bytes, length, fields, count, &out);
+        bool is_done = want.code == PERGIDAU_DONE;
+        HOLDS(code == (is_done && want.fields > count ? PERGIDAU_BUFFER_TOO_SMALL : want.code));
+        HOLDS(out.fields == (is_done ? want.fields : 0));
+        HOLDS(out.length == (code == PERGIDAU_DONE ? want.at : 0));
+        HOLDS(out.error_offset == (code == PERGIDAU_INVALID ? want.at : 0) && out.error == want.error);
+        if (code == PERGIDAU_DONE) {
+            hold_fields(bytes, out.length, fields, out.fields);
+        }
+        if (is_exact || !is_done) {
+            break;
+        }
+        HOLDS(want.fields <= MOST_FIELDS);
+        count = want.fields;
     }
+    struct pergidau_http_head_state state = {0};
+    enum pergidau_code code = PERGIDAU_INCOMPLETE;
+    for (bool is_last = false; code == PERGIDAU_INCOMPLETE && !is_last;) {
+        have += have < length ? below(length - have + 1) : 0;
+        is_last = have == length;
+        code = pergidau_http_field_lines_extent(&state, bytes, have, &end);
+    }
+    HOLDS(code == want.code && end == (code == PERGIDAU_INCOMPLETE ? 0 : want.at));
 }
 
 /* ---- the ends of heads and of records, by successive calls and by one call */

@@ -1295,6 +1295,7 @@ static void test_library(void)
 #include "bodies_rows.h"
 #include "dns_rows.h"
 #include "heads_rows.h"
+#include "trailers_rows.h"
 #include "resp_nodes_rows.h"
 #include "writing_rows.h"
 
@@ -1321,6 +1322,7 @@ int main(void)
     test_heads();
     test_responses();
     test_head_extents();
+    test_trailers();
     test_records();
     test_record_extents();
     test_replies();

@@ -8,3 +8,5 @@ mod extents;
 mod heads;
 #[cfg(test)]
 mod responses;
+#[cfg(test)]
+mod trailers;

@@ -838,9 +838,9 @@ pub struct ChunkedStep {
     pub error: u32,
 }
 
-/// The state of a search for the end of the head of a request or a response. Only the functions of
-/// this library may interpret its fields. All zeros is the initial state; start from it for each
-/// head.
+/// The state of a search for the end of the head of a request or a response, or of field lines.
+/// Only the functions of this library may interpret its fields. All zeros is the initial state;
+/// start from it for each head.
 #[repr(C)]
 #[derive(Clone, Copy, Debug, Default, PartialEq, Eq)]
 pub struct HttpHeadState {
@@ -870,6 +870,20 @@ pub struct ResponseHead {
     pub major: u8,
     /// The number after the point of the version, below 10.
     pub minor: u8,
+}
+
+/// The number and the length of field lines.
+#[repr(C)]
+#[derive(Clone, Copy, Debug, Default, PartialEq, Eq)]
+pub struct HttpFields {
+    /// How many fields there are.
+    pub fields: usize,
+    /// The length of the field lines in bytes, including the empty line after them.
+    pub length: usize,
+    /// The offset of the error in bytes; 0 otherwise.
+    pub error_offset: usize,
+    /// Why the byte at this offset is invalid; `HTTP_HEAD_ERROR_NONE` otherwise.
+    pub error: u32,
 }
 
 /// The state of parsing an INI file. Only the functions of this library may interpret its fields.
@@ -1756,6 +1770,40 @@ extern "C" {
         out: *mut usize,
     ) -> u32;
 
+    /// Finds the end of field lines and the empty line after them, such as a trailer section (RFC 9112,
+    /// section 7.1.2), in input that arrives in chunks, as `exported_http_head_extent` does for heads,
+    /// with a state of its own. To obtain the fields, or the reason of an error, pass all bytes to
+    /// `exported_http_field_lines`.
+    ///
+    /// For the first call, `state` must be all zeros. Each further call for the same field lines must
+    /// have the state that the previous call left, and the bytes of the previous call followed by more
+    /// bytes.
+    ///
+    /// `DONE`: `bytes` starts with field lines and an empty line, whose length is written. Reset the
+    /// state to zeros for the next ones.
+    ///
+    /// `INCOMPLETE`: the empty line is not there yet, but more bytes can complete it. 0 is written.
+    ///
+    /// If `state` belongs to other bytes or was modified, the result may be wrong, but nothing outside
+    /// `bytes` is read.
+    ///
+    /// # Errors
+    ///
+    /// `INVALID`: `bytes` does not start with field lines and an empty line, regardless of what
+    /// follows. The first offset at which they cannot continue is written.
+    ///
+    /// # Safety
+    ///
+    /// `state` must be valid for reads and writes of one state, and `out` for writes of one length.
+    /// `bytes` must be valid for reads of `bytes_length` bytes, which must not change during the call.
+    /// None of these may overlap. The call needs 16 KiB of stack.
+    pub fn exported_http_field_lines_extent(
+        state: *mut HttpHeadState,
+        bytes: *const u8,
+        bytes_length: usize,
+        out: *mut usize,
+    ) -> u32;
+
     /// Finds the first field of a name among the fields that `exported_http_head` or
     /// `exported_http_response_head` wrote for these bytes. Names are compared ignoring ASCII case.
     ///
@@ -1846,6 +1894,44 @@ extern "C" {
         fields: *mut Field,
         fields_length: usize,
         out: *mut ResponseHead,
+    ) -> u32;
+
+    /// Parses field lines (RFC 9112, section 5) up to the empty line after them, at the start of
+    /// `bytes`: a trailer section (section 7.1.2) and the line ending after it. The bytes after the
+    /// empty line are not read. There may be no field lines.
+    ///
+    /// `DONE`: the offsets of the fields are written, in order, and their number and length.
+    ///
+    /// `INCOMPLETE`: the empty line is not there, but more bytes can complete it. In complete input
+    /// this is an error.
+    ///
+    /// The trailers that `exported_http_chunked` returns do not have the empty line: append a CRLF to
+    /// them. The bytes are scanned once, and each call starts at the first byte. The function does not
+    /// allocate.
+    ///
+    /// # Errors
+    ///
+    /// `INVALID`: `bytes` does not start with field lines and an empty line, regardless of what
+    /// follows. The offset of the first invalid byte is written, and why it is invalid: the bytes
+    /// before it can continue, and together with the byte there they cannot.
+    ///
+    /// `BUFFER_TOO_SMALL`: there are more fields than the buffer has entries. The number of fields is
+    /// written.
+    ///
+    /// After any code but `DONE`, the contents of the buffer are unspecified, because the fields are
+    /// written during parsing, and all other parts of the result are 0.
+    ///
+    /// # Safety
+    ///
+    /// `bytes` must be valid for reads of `bytes_length` bytes, which must not change during the call.
+    /// `fields` must be valid for writes of `fields_length` entries, and `out` for writes of one
+    /// result. None of these may overlap. The call needs 16 KiB of stack.
+    pub fn exported_http_field_lines(
+        bytes: *const u8,
+        bytes_length: usize,
+        fields: *mut Field,
+        fields_length: usize,
+        out: *mut HttpFields,
     ) -> u32;
 
     /// Parses the next entry of an INI file in any dialect, as common in `.ini`, `.cfg` and `.desktop`

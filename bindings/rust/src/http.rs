@@ -16,6 +16,7 @@ mod body;
 mod error;
 mod extent;
 mod response;
+mod trailers;
 
 pub use self::body::{request_body, response_body, Body, BodyError};
 pub use self::error::HeadError;
@@ -23,6 +24,7 @@ pub use self::extent::HeadExtent;
 #[cfg(feature = "alloc")]
 pub use self::response::response_head_grown;
 pub use self::response::{response_head, response_head_partial, ResponseHead};
+pub use self::trailers::{field_lines, FieldLines};
 pub use crate::exports::Field;
 
 use self::error::error_of;

@@ -66,8 +66,35 @@ fn http_response_head_of_responses() {
 }
 
 #[test]
+fn http_field_lines_of_trailers() {
+    let text = b"Digest: a=b\r\nX:\r\n\r\nGET";
+    let mut fields = [Field::default(); 3];
+    let lines = http::field_lines(text, &mut fields).unwrap();
+    assert!(lines.fields().eq([(&b"Digest"[..], &b"a=b"[..]), (b"X", b"")]));
+    assert_eq!((lines.field("x"), lines.field("y")), (Some(&b""[..]), None));
+    assert_eq!(lines.rest(), b"GET");
+    assert_eq!(http::field_lines(b"\r\n\r\n", &mut []).unwrap().rest(), b"\r\n");
+    let small = http::field_lines(text, &mut fields[..1]).unwrap_err();
+    assert_eq!(small, Error::BufferTooSmall(RequiredSize { entries: 2, bytes: 0 }));
+    for end in 0..text.len() - 3 {
+        let partial = http::field_lines(&text[..end], &mut fields).unwrap_err();
+        assert_eq!(partial, Error::Incomplete);
+    }
+    for (bytes, offset, reason) in [
+        (&b"\n"[..], 0, HeadError::FieldName),
+        (b"GET / HTTP/1.1\r\n\r\n", 3, HeadError::Colon),
+        (b"a: b\n\r\n", 4, HeadError::Value),
+        (b"a: b\r\n\ra", 7, HeadError::LineEnding),
+    ] {
+        let never = Error::InvalidHead { offset, reason };
+        assert_eq!(http::field_lines(bytes, &mut []).unwrap_err(), never);
+        assert_eq!(HeadExtent::of_field_lines().advance(bytes), Err(never));
+    }
+}
+
+#[test]
 fn http_head_extent_of_pieces() {
-    let rows: [(HeadExtent, &[u8], usize); 5] = [
+    let rows: [(HeadExtent, &[u8], usize); 7] = [
         (HeadExtent::new(), b"A b HTTP/1.1\r\n\r\n\r\n", 16),
         (
             HeadExtent::new(),
@@ -77,6 +104,8 @@ fn http_head_extent_of_pieces() {
         (HeadExtent::new(), b"PUT /x HTTP/1.1\r\nX: 1\r\nX:\t2 \r\nY:\r\n\r\nX: 3\r\n\r\n", 36),
         (HeadExtent::of_response(), HELLO, HELLO.len() - 5),
         (HeadExtent::of_response(), b"HTTP/2.9 999\r\n\r\n\r\n", 16),
+        (HeadExtent::of_field_lines(), b"\r\n\r\n", 2),
+        (HeadExtent::of_field_lines(), b"Digest: a=b\r\nX:\r\n\r\nGET", 19),
     ];
     for (start, bytes, whole) in rows {
         for step in 1..=bytes.len() {

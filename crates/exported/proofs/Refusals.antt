@@ -1,12 +1,12 @@
 -- Invalid bytes begin with no head.
 use Rattle.std.proofs.Common.{◌≡◌, ◌∙◌, ◌++◌, ◌∷◌, [], ℕ, List, ap, append_assoc, subst, sym}
 use Rattle.std.proofs.lemmas.List.{append-nil}
-use Rattle.format_http.specs.Heads.Head.{IsHead}
-use Rattle.format_http.specs.Heads.Head.{NoHead}
+use Rattle.format_http.specs.Heads.Head.{AreFields, IsHead, NoHead}
 use Rattle.format_http.specs.Responses.Head.{NoResponseHead}
 use Rattle.format_http.specs.Responses.Head.{IsResponseHead}
-use Rattle.format_http_places.specs.Refusals.{IsRefused, NoneRead}
+use Rattle.format_http_places.specs.Refusals.{IsRefused, IsRefusedBy, NoneRead}
 use Rattle.format_http_places.specs.Responses.{IsResponseRefused, NoResponseRead}
+use Rattle.format_http_places.specs.Sections.{BeginsFields, NoFields}
 
 -- bytes, and more, by the first ones up to a byte
 up_to : (bytes before behind more : List ℕ) (byte : ℕ) → bytes ≡ before ++ byte ∷ behind
@@ -40,3 +40,12 @@ pub no_response : (bytes : List ℕ) (place : ℕ) → IsResponseRefused bytes p
 no_response bytes place it line fields rest head =
     let P : List ℕ → Type 0 = λ l. IsResponseHead line fields l rest in
     no_response_ever bytes place it line fields [] rest (subst P (sym (append-nil bytes)) head)
+
+-- ---- field lines
+
+pub no_fields_ever : (bytes : List ℕ) (place : ℕ) → IsRefusedBy BeginsFields NoFields bytes place
+    → NoFields bytes
+no_fields_ever bytes place it fields more rest are =
+    let P : List ℕ → Type 0 = λ l. AreFields fields l rest in
+    it.none fields (it.behind ++ more) rest
+    (subst P (up_to bytes it.before it.behind more it.byte it.splits) are)

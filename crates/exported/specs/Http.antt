@@ -9,10 +9,12 @@ use Rattle.format_http_places.specs.declared.parts.HeadKind.{HeadKind}
 use Rattle.format_http_places.specs.declared.parts.HeadKind.TheVariants as kind
 use Rattle.format_http_places.specs.declared.parts.HeadPart.{HeadPart}
 use Rattle.format_http_places.specs.declared.parts.HeadPart.TheVariants as part
+use Rattle.format_http_places.specs.declared.places.FieldLines.{FieldLines}
 use Rattle.format_http_places.specs.declared.places.Head.{Head as Places}
 use Rattle.format_http_places.specs.declared.places.ResponseHead.{ResponseHead as ResponsePlaces}
 use Rattle.exported.specs.declared.http.Head.{Head}
 use Rattle.exported.specs.declared.http.response.ResponseHead.{ResponseHead}
+use Rattle.exported.specs.declared.http.trailers.HttpFields.{HttpFields}
 
 -- the number of a part of a head
 abbrev pub part_number : HeadPart → ℕ
@@ -77,3 +79,9 @@ abbrev pub IsNoResponse : List ℕ → ℕ → ℕ → Type 0
 IsNoResponse bytes place error =
     (IsResponseRefused bytes place × HasPart kind.Response bytes place error)
     ⊎ ((place ≡ length bytes) × BeginsResponseHead bytes × NoResponseRead bytes × (error ≡ 9))
+
+-- ---- field lines
+
+-- the number and the length of field lines
+abbrev pub lines_of : HttpFields → FieldLines
+lines_of lines = record { fields = lines.fields; length = lines.length }

@@ -6,7 +6,7 @@ use Rattle.format_http_places.specs.Refusals.{IsRefusedBy}
 use Rattle.format_http_places.specs.States.{start_of}
 use Rattle.format_http_places.specs.declared.extent.HeadExtent.{HeadExtent}
 use Rattle.format_http_places.specs.declared.parts.HeadKind.{HeadKind}
-use Rattle.format_http_places.specs.declared.parts.HeadKind.TheVariants as kind
+use Rattle.format_http_places.specs.declared.state.FirstLine.TheVariants as first
 use Rattle.format_http_places.specs.declared.state.HeadPlace.{HeadPlace}
 use Rattle.format_http_places.specs.declared.state.HeadPlace.TheVariants as place
 use Rattle.exported.specs.Code.{done, incomplete, invalid}
@@ -17,12 +17,12 @@ use Rattle.exported.specs.declared.http.extent.HttpHeadState.{HttpHeadState}
 abbrev pub numbered : HeadKind → List HeadPlace
 numbered k =
     start_of k ∷ place.Start ∷ place.Method ∷ place.TargetStart ∷ place.Target ∷
-    place.Version kind.Request ∷ place.AfterH kind.Request ∷ place.AfterT kind.Request ∷
-    place.AfterTT kind.Request ∷ place.AfterP kind.Request ∷ place.Major kind.Request ∷
-    place.Point kind.Request ∷ place.Minor kind.Request ∷ place.Version kind.Response ∷
-    place.AfterH kind.Response ∷ place.AfterT kind.Response ∷ place.AfterTT kind.Response ∷
-    place.AfterP kind.Response ∷ place.Major kind.Response ∷ place.Point kind.Response ∷
-    place.Minor kind.Response ∷ place.Return ∷ place.Space ∷ place.Hundreds ∷ place.Tens ∷
+    place.Version first.Request ∷ place.AfterH first.Request ∷ place.AfterT first.Request ∷
+    place.AfterTT first.Request ∷ place.AfterP first.Request ∷ place.Major first.Request ∷
+    place.Point first.Request ∷ place.Minor first.Request ∷ place.Version first.Response ∷
+    place.AfterH first.Response ∷ place.AfterT first.Response ∷ place.AfterTT first.Response ∷
+    place.AfterP first.Response ∷ place.Major first.Response ∷ place.Point first.Response ∷
+    place.Minor first.Response ∷ place.Return ∷ place.Space ∷ place.Hundreds ∷ place.Tens ∷
     place.Ones ∷ place.AfterCode ∷ place.LineFeed ∷ place.Fields ∷ place.Name ∷ place.Value
     ∷ place.LastLineFeed ∷ []
 

@@ -1,5 +1,6 @@
 //! Heads of requests. Submodules have the heads of responses, the errors of both, the end of a head
-//! in partial input, the fields of a name, the lengths of bodies, and chunked bodies.
+//! in partial input, field lines without a first line, the fields of a name, the lengths of bodies,
+//! and chunked bodies.
 
 ghost use Rattle.std.specs.Prelude.{◌≡◌, ◌⊎◌, ◌≤◌, ◌<◌, List, drop, length, take, ℕ};
 ghost use Rattle.format_http.specs.Heads.Head.{IsHead, Pair, Request};
@@ -15,6 +16,7 @@ pub mod error;
 pub mod extent;
 pub mod field;
 pub mod response;
+pub mod trailers;
 
 use crate::code::{BUFFER_TOO_SMALL, DONE, INCOMPLETE, INVALID};
 use crate::http::error::{HTTP_HEAD_ERROR_INCOMPLETE, HTTP_HEAD_ERROR_NONE, number_of};

@@ -10,6 +10,7 @@ use Rattle.format_http_places.specs.Extents.{IsStep, IsStopped, Says, Walks}
 use Rattle.format_http_places.specs.Grammar.{Continues, EquivalentAfter, NoneAt, Stops}
 use Rattle.format_http_places.specs.Refusals.{ReadsHead}
 use Rattle.format_http_places.specs.Responses.{ReadsResponse}
+use Rattle.format_http_places.specs.Sections.{ReadsFieldLines}
 use Rattle.format_http_places.specs.States.{Due, IsIn, StateAfter, TextOf, part_of, start_of}
 use Rattle.format_http_places.specs.declared.extent.HeadExtent.{HeadExtent}
 use Rattle.format_http_places.specs.declared.parts.HeadKind.{HeadKind}
@@ -36,6 +37,7 @@ from_start k from is =
     by : (k : HeadKind) → EquivalentAfter (TextOf k) [] (Due (start_of k))
     by kind.Request = record { there = λ more rest it. it; back = λ more rest it. it }
     by kind.Response = record { there = λ more rest it. it; back = λ more rest it. it }
+    by kind.Trailers = record { there = λ more rest it. it; back = λ more rest it. it }
 
 -- the part of a head after bytes with which one starts
 pub is_in : {k : HeadKind} {before left : List ℕ} {from : HeadPlace} (at : HeadPlace) {p :
@@ -103,6 +105,12 @@ pub response_told : (bytes : List ℕ) (fields : List Field) (e : HeadError)
 response_told bytes fields (TooManyFields count) never = absurd never
 response_told bytes fields (error.Invalid invalid) it = it
 response_told bytes fields Incomplete it = it
+
+pub lines_told : (bytes : List ℕ) (fields : List Field) (e : HeadError)
+    → IsErrorOf kind.Trailers bytes e → ReadsFieldLines bytes (Err e) fields
+lines_told bytes fields (TooManyFields count) never = absurd never
+lines_told bytes fields (error.Invalid invalid) it = it
+lines_told bytes fields Incomplete it = it
 
 -- ---- results
 

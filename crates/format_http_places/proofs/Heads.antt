@@ -3,7 +3,7 @@ use Rattle.std.proofs.Common.{◌≡◌, ◌<◌, ◌+◌, ◌-◌, ◌++◌, �
 use Rattle.std.proofs.lemmas.List.Elements.{All-cons}
 use Rattle.std.specs.List.{All}
 use Rattle.format_http.specs.Heads.Bytes.{IsTokenByte, IsVisible, line_end}
-use Rattle.format_http.specs.Heads.Head.{IsHead, Pair, Request}
+use Rattle.format_http.specs.Heads.Head.{AreFields, IsHead, Pair, Request}
 use Rattle.format_http.specs.Responses.Head.{IsResponseHead, Status}
 use Rattle.format_http_places.specs.Extents.{Begins, HasNone, IsLong, Never}
 use Rattle.format_http_places.specs.Grammar.{Byte, CodeText, FieldsText, HeadText, Language}
@@ -12,6 +12,7 @@ use Rattle.format_http_places.specs.Grammar.{Text, VersionText}
 use Rattle.format_http_places.specs.Places.{ShowsFields, ShowsLine}
 use Rattle.format_http_places.specs.Refusals.{IsRefusedBy, ReadsParts}
 use Rattle.format_http_places.specs.Responses.{ReadsResponseParts, ShowsStatus}
+use Rattle.format_http_places.specs.Sections.{ReadsLines}
 use Rattle.format_http_places.specs.States.{TextOf}
 use Rattle.format_http_places.specs.declared.line.RequestLine.{RequestLine}
 use Rattle.format_http_places.specs.declared.parts.HeadKind.{HeadKind}
@@ -96,12 +97,23 @@ text_response bytes rest it =
       },
     )
 
+fields_text : {fields : List Pair} {bytes rest : List ℕ} → AreFields fields bytes rest
+    → FieldsText bytes rest
+fields_text are = from_rest (past_fields are) refl
+
+text_fields : (bytes rest : List ℕ) → FieldsText bytes rest
+    → (fields : List Pair) × AreFields fields bytes rest
+unfolding FieldsText
+text_fields bytes rest it = text_lines it.0 bytes rest it.1
+
 pub long_of : (k : HeadKind) (bytes rest : List ℕ) (n : ℕ) → TextOf k bytes rest
     → n + length rest ≡ length bytes → IsLong k bytes n
 long_of kind.Request bytes rest n it size =
     let (line, fields, head) = text_head bytes rest it in (line, fields, rest, head, size)
 long_of kind.Response bytes rest n it size =
     let (line, fields, head) = text_response bytes rest it in (line, fields, rest, head, size)
+long_of kind.Trailers bytes rest n it size =
+    let (fields, are) = text_fields bytes rest it in (fields, rest, are, size)
 
 -- ---- bytes that cannot continue a head
 
@@ -111,17 +123,21 @@ begins_of kind.Request front more it =
     let (line, fields, head) = text_head (front ++ more) [] it in (line, fields, more, head)
 begins_of kind.Response front more it =
     let (line, fields, head) = text_response (front ++ more) [] it in (line, fields, more, head)
+begins_of kind.Trailers front more it =
+    let (fields, are) = text_fields (front ++ more) [] it in (fields, more, are)
 
 never_of : (k : HeadKind) (front : List ℕ)
     → ((more rest : List ℕ) → TextOf k (front ++ more) rest → ⊥) → Never k front
 never_of kind.Request front not = λ line fields more rest head. not more rest (head_text head)
 never_of kind.Response front not = λ line fields more rest head.
     not more rest (response_text head)
+never_of kind.Trailers front not = λ fields more rest are. not more rest (fields_text are)
 
 none_of : (k : HeadKind) (front : List ℕ) → ((rest : List ℕ) → TextOf k front rest → ⊥)
     → HasNone k front
 none_of kind.Request front not = λ line fields rest head. not rest (head_text head)
 none_of kind.Response front not = λ line fields rest head. not rest (response_text head)
+none_of kind.Trailers front not = λ fields rest are. not rest (fields_text are)
 
 pub refused_of : (k : HeadKind) (bytes : List ℕ) (left place : ℕ) → Stops (TextOf k) bytes left
     → 0 < left → place ≡ length bytes - left → IsRefusedBy (Begins k) (Never k) bytes place
@@ -133,6 +149,26 @@ pub wanting_of : (k : HeadKind) (bytes : List ℕ) → Stops (TextOf k) bytes 0
 wanting_of k bytes = wanting_by (TextOf k) (Begins k) (HasNone k) (begins_of k) bytes (none_of k)
 
 -- ---- what is read of a head
+
+pub trailers_read : {bytes rest : List ℕ} {places : List Field} {count : ℕ}
+    → ShowsFields (length bytes) bytes count places rest
+    → ReadsLines bytes (record { fields = count; length = length bytes - length rest }) places
+trailers_read {bytes = bytes} {rest = rest} found = (
+  λ room. record {
+    fields = found.fields;
+    rest = rest;
+    are_fields = found.are_fields;
+    count = found.counts;
+    are_shown = found.shows room bytes [] refl refl;
+    ends = omega (arith, no_longer (past_fields found.are_fields));
+  },
+  record {
+    fields = found.fields;
+    rest = rest;
+    are_fields = found.are_fields;
+    counts = found.counts;
+  },
+)
 
 pub request_read : {bytes rest : List ℕ} {line : RequestLine} {places : List Field} {count : ℕ}
     → ShowsLine bytes line → ShowsFields (length bytes) line.rest.now count places rest

@@ -10,8 +10,8 @@ use Rattle.format_http_places.specs.Extents.{IsIf, IsNever, IsOnly, IsRunOr, IsS
 use Rattle.format_http_places.specs.Grammar.{Byte, EquivalentAfter, Language, OneOf, Run}
 use Rattle.format_http_places.specs.Runs.{SoMany}
 use Rattle.format_http_places.specs.States.{Due, StateAfter, after_version}
-use Rattle.format_http_places.specs.declared.parts.HeadKind.{HeadKind}
-use Rattle.format_http_places.specs.declared.parts.HeadKind.TheVariants as kind
+use Rattle.format_http_places.specs.declared.state.FirstLine.{FirstLine}
+use Rattle.format_http_places.specs.declared.state.FirstLine.TheVariants as first
 use Rattle.format_http_places.specs.declared.state.HeadPlace.{HeadPlace}
 use Rattle.format_http_places.specs.declared.state.HeadPlace.TheVariants as place
 use Rattle.format_http_places.proofs.Continues.{behind_byte, behind_end, behind_one, behind_runs}
@@ -142,7 +142,7 @@ run_at P c n {here = here} next bytes is runs it =
     subst Q (sym is) (runs.goes (take n bytes) it.0.1)
 
 -- the second digit of a version
-pub minor_step : (k : HeadKind) {at : HeadPlace} (next : HeadPlace) (b : ℕ) (is : Bool)
+pub minor_step : (k : FirstLine) {at : HeadPlace} (next : HeadPlace) (b : ℕ) (is : Bool)
     (step : Option HeadPlace) → at ≡ place.Minor k → next ≡ after_version k
     → IsTrue is ↔ IsDigit b
     → IsIf is next step → IsStep at b step
@@ -150,6 +150,6 @@ minor_step k next b is step same e both it =
     let Q : HeadPlace → Type 0 = λ p. Takes IsDigit b (Due (place.Minor k)) (Due p) in
     step_if IsDigit next is step same (subst Q (sym e) (by k)) both it
   where
-    by : (k : HeadKind) → Takes IsDigit b (Due (place.Minor k)) (Due (after_version k))
-    by kind.Request = takes_one IsDigit
-    by kind.Response = takes_one IsDigit
+    by : (k : FirstLine) → Takes IsDigit b (Due (place.Minor k)) (Due (after_version k))
+    by first.Request = takes_one IsDigit
+    by first.Response = takes_one IsDigit

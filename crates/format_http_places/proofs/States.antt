@@ -6,8 +6,8 @@ use Rattle.format_http_places.specs.Grammar.{LinesText, NoneAt, Nothing, OneOf, 
 use Rattle.format_http_places.specs.Grammar.{Text, VersionText, protocol}
 use Rattle.format_http_places.specs.Runs.{NotFirst}
 use Rattle.format_http_places.specs.States.{AfterVersion, Due, NumbersText}
-use Rattle.format_http_places.specs.declared.parts.HeadKind.{HeadKind}
-use Rattle.format_http_places.specs.declared.parts.HeadKind.TheVariants as kind
+use Rattle.format_http_places.specs.declared.state.FirstLine.{FirstLine}
+use Rattle.format_http_places.specs.declared.state.FirstLine.TheVariants as first
 use Rattle.format_http_places.specs.declared.state.HeadPlace.{HeadPlace}
 use Rattle.format_http_places.specs.declared.state.HeadPlace.TheVariants as place
 use Rattle.format_http_places.proofs.Continues.{Live, live_byte, live_one, live_run, live_text}
@@ -44,15 +44,15 @@ live_reason : Live ReasonText
 unfolding ReasonText
 live_reason = record { bytes = live_end.bytes; is = inr live_end.is }
 
-pub live_after : (k : HeadKind) → Live (AfterVersion k)
-live_after kind.Request = live_end
-live_after kind.Response = live_byte 32 (live_digit (live_digit (live_digit live_reason)))
+pub live_after : (k : FirstLine) → Live (AfterVersion k)
+live_after first.Request = live_end
+live_after first.Response = live_byte 32 (live_digit (live_digit (live_digit live_reason)))
 
-live_numbers : (k : HeadKind) → Live (NumbersText k)
+live_numbers : (k : FirstLine) → Live (NumbersText k)
 live_numbers k = live_digit (live_byte 46 (live_digit (live_after k)))
 
 live_target : Live (Due place.Target)
-live_target = live_run IsVisible 32 (live_text protocol (live_numbers kind.Request))
+live_target = live_run IsVisible 32 (live_text protocol (live_numbers first.Request))
 
 live_method : Live (Due place.Method)
 live_method = live_run IsTokenByte 32 (live_one IsVisible 65 a_visible live_target)
@@ -71,7 +71,7 @@ live_at (place.Major k) = live_numbers k
 live_at (place.Point k) = live_byte 46 (live_digit (live_after k))
 live_at (place.Minor k) = live_digit (live_after k)
 live_at place.Return = live_end
-live_at place.Space = live_after kind.Response
+live_at place.Space = live_after first.Response
 live_at place.Hundreds = live_digit (live_digit (live_digit live_reason))
 live_at place.Tens = live_digit (live_digit live_reason)
 live_at place.Ones = live_digit live_reason

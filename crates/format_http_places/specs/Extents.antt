@@ -1,12 +1,13 @@
 -- The scanner for the end of a head: the bytes passed, and the continuation expected after them.
 use Rattle.std.specs.Prelude.{◌≡◌, ◌⊎◌, ◌<◌, ◌+◌, ⊤, ℕ, List, [], ◌∷◌, length, Bool, true, Err}
 use Rattle.std.specs.Prelude.{None, Ok, Option, Result, Some, false, take}
-use Rattle.format_http.specs.Heads.Head.{BeginsHead, IsHead, NoHead, Pair, Request}
+use Rattle.format_http.specs.Heads.Head.{AreFields, BeginsHead, IsHead, NoHead, Pair, Request}
 use Rattle.format_http.specs.Responses.Head.{BeginsResponseHead, IsResponseHead, NoResponseHead}
 use Rattle.format_http.specs.Responses.Head.{Status}
 use Rattle.format_http_places.specs.Grammar.{Continues}
 use Rattle.format_http_places.specs.Refusals.{IsRefusedBy, NoneRead}
 use Rattle.format_http_places.specs.Responses.{NoResponseRead}
+use Rattle.format_http_places.specs.Sections.{BeginsFields, NoFields, NoFieldsRead}
 use Rattle.format_http_places.specs.States.{Due, IsIn, StateAfter, TextOf, part_of}
 use Rattle.format_http_places.specs.declared.extent.HeadExtent.{HeadExtent}
 use Rattle.format_http_places.specs.declared.parts.HeadKind.{HeadKind}
@@ -35,16 +36,19 @@ pub record IsOf (k : HeadKind) (extent : HeadExtent) (bytes : List ℕ) : Type 0
 abbrev pub Begins : HeadKind → List ℕ → Type 0
 Begins kind.Request = BeginsHead
 Begins kind.Response = BeginsResponseHead
+Begins kind.Trailers = BeginsFields
 
 -- No head starts with these bytes.
 abbrev pub Never : HeadKind → List ℕ → Type 0
 Never kind.Request = NoHead
 Never kind.Response = NoResponseHead
+Never kind.Trailers = NoFields
 
 -- The bytes begin with no head.
 abbrev pub HasNone : HeadKind → List ℕ → Type 0
 HasNone kind.Request = NoneRead
 HasNone kind.Response = NoResponseRead
+HasNone kind.Trailers = NoFieldsRead
 
 -- That many of the first bytes are a head.
 abbrev pub IsLong : HeadKind → List ℕ → ℕ → Type 0
@@ -52,6 +56,8 @@ IsLong kind.Request bytes n = (line : Request) × (fields : List Pair) × (rest 
     × IsHead line fields bytes rest × (n + length rest ≡ length bytes)
 IsLong kind.Response bytes n = (line : Status) × (fields : List Pair) × (rest : List ℕ)
     × IsResponseHead line fields bytes rest × (n + length rest ≡ length bytes)
+IsLong kind.Trailers bytes n = (fields : List Pair) × (rest : List ℕ)
+    × AreFields fields bytes rest × (n + length rest ≡ length bytes)
 
 -- the first offset at which no head can continue, and the part of the head there
 abbrev pub IsInvalid : HeadKind → List ℕ → Invalid → Type 0

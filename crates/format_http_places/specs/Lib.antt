@@ -5,4 +5,5 @@ pub mod Places
 pub mod Refusals
 pub mod Responses
 pub mod Runs
+pub mod Sections
 pub mod States

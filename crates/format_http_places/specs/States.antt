@@ -9,6 +9,8 @@ use Rattle.format_http_places.specs.declared.parts.HeadKind.{HeadKind}
 use Rattle.format_http_places.specs.declared.parts.HeadKind.TheVariants as kind
 use Rattle.format_http_places.specs.declared.parts.HeadPart.{HeadPart}
 use Rattle.format_http_places.specs.declared.parts.HeadPart.TheVariants as part
+use Rattle.format_http_places.specs.declared.state.FirstLine.{FirstLine}
+use Rattle.format_http_places.specs.declared.state.FirstLine.TheVariants as first
 use Rattle.format_http_places.specs.declared.state.HeadPlace.{HeadPlace}
 use Rattle.format_http_places.specs.declared.state.HeadPlace.TheVariants as place
 
@@ -16,24 +18,26 @@ use Rattle.format_http_places.specs.declared.state.HeadPlace.TheVariants as plac
 abbrev pub TextOf : HeadKind → Language
 TextOf kind.Request = HeadText
 TextOf kind.Response = ResponseText
+TextOf kind.Trailers = FieldsText
 
 -- the state at the start of a head
 abbrev pub start_of : HeadKind → HeadPlace
 start_of kind.Request = place.Start
-start_of kind.Response = place.Version kind.Response
+start_of kind.Response = place.Version first.Response
+start_of kind.Trailers = place.Fields
 
 -- the state after a version
-abbrev pub after_version : HeadKind → HeadPlace
-after_version kind.Request = place.Return
-after_version kind.Response = place.Space
+abbrev pub after_version : FirstLine → HeadPlace
+after_version first.Request = place.Return
+after_version first.Response = place.Space
 
 -- what follows a version
-abbrev pub AfterVersion : HeadKind → Language
-AfterVersion kind.Request = Text line_end FieldsText
-AfterVersion kind.Response = Byte 32 (CodeText ReasonText)
+abbrev pub AfterVersion : FirstLine → Language
+AfterVersion first.Request = Text line_end FieldsText
+AfterVersion first.Response = Byte 32 (CodeText ReasonText)
 
 -- the numbers of a version, and what follows it
-abbrev pub NumbersText : HeadKind → Language
+abbrev pub NumbersText : FirstLine → Language
 NumbersText k = OneOf IsDigit (Byte 46 (OneOf IsDigit (AfterVersion k)))
 
 -- `Due at`: the language of the rest of a head in state `at`.

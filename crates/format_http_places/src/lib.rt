@@ -14,3 +14,4 @@ mod runs;
 pub mod state;
 mod status;
 mod stop;
+pub mod trailers;

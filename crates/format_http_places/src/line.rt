@@ -8,7 +8,7 @@ ghost use Rattle.format_http_places.specs.Grammar.{Stops, Unended, VersionText, 
 ghost use Rattle.format_http_places.specs.Places.{ShowsFieldLine, ShowsLine};
 ghost use Rattle.format_http_places.specs.Runs.{NotFirst};
 ghost use Rattle.format_http_places.specs.States.{AfterVersion};
-ghost use Rattle.format_http_places.specs.declared.parts.HeadKind.{HeadKind};
+ghost use Rattle.format_http_places.specs.declared.state.FirstLine.{FirstLine};
 
 use crate::places::{Field, Span};
 use crate::runs::{bare, target_len, token_len, value_len};
@@ -82,7 +82,8 @@ pub(crate) fn read_numbers(bytes: &[u8]) -> Result<Version<'_>, Stop>
     ensures { MatchResult result
         (λ version. (version.major < 10) × (version.minor < 10)
         × (bytes.now ≡ protocol ++ (digits version.major version.minor ++ version.rest.now)))
-        (λ stop. (kind : HeadKind) → Stops (ProtocolText (AfterVersion kind)) bytes.now stop.left) }
+        (λ stop. (line : FirstLine)
+        → Stops (ProtocolText (AfterVersion line)) bytes.now stop.left) }
 {
     let first = read_text(bytes, b"HTTP/".as_slice())?;
     let (major, point) = read_digit(first)?;

@@ -19,6 +19,9 @@ pub enum HeadKind {
     Request,
     /// Heads of responses.
     Response,
+    /// Field lines and an empty line, without a first line: the trailer section of a chunked body
+    /// with its end (RFC 9112, section 7.1.2).
+    Trailers,
 }
 
 /// The part of a head in which a byte is invalid, as RFC 9112 names it. It depends only on how the

@@ -88,3 +88,20 @@ pub struct ResponseHead {
     /// The number after the point of the version, below 10.
     pub minor: u8,
 }
+
+/// A section of field lines without a first line.
+///
+/// ```
+/// use format_http_places::places::FieldLines;
+///
+/// let lines = FieldLines { fields: 1, length: 8 };
+/// assert!(rt; lines.fields < lines.length);
+/// ```
+#[repr(C)]
+#[derive(Clone, Copy, Debug, PartialEq, Eq, Drop)]
+pub struct FieldLines {
+    /// How many fields there are.
+    pub fields: usize,
+    /// The length in bytes, including the empty line after the fields.
+    pub length: usize,
+}

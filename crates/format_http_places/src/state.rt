@@ -8,6 +8,23 @@ ghost use Rattle.format_http_places.specs.States.{StateAfter, after_version, par
 use crate::parts::{HeadKind, HeadPart};
 use crate::runs::{is_token, is_value, is_visible, target_len, token_len, value_len};
 
+/// The first line that a version is in.
+///
+/// ```
+/// use format_http_places::parts::HeadKind;
+/// use format_http_places::state::{FirstLine, HeadPlace};
+///
+/// let start = HeadPlace::start(HeadKind::Response);
+/// assert!(rt; start == HeadPlace::Version(FirstLine::Response));
+/// ```
+#[derive(Clone, Copy, Debug, PartialEq, Eq)]
+pub enum FirstLine {
+    /// A request line.
+    Request,
+    /// A status line.
+    Response,
+}
+
 /// The position of the next byte in a head.
 ///
 /// ```
@@ -30,21 +47,21 @@ pub enum HeadPlace {
     /// In the target.
     Target,
     /// At the start of the version: in a request after the target, and the start of a response.
-    Version(HeadKind),
+    Version(FirstLine),
     /// After its first byte.
-    AfterH(HeadKind),
+    AfterH(FirstLine),
     /// After its second byte.
-    AfterT(HeadKind),
+    AfterT(FirstLine),
     /// After its third byte.
-    AfterTT(HeadKind),
+    AfterTT(FirstLine),
     /// After its fourth byte.
-    AfterP(HeadKind),
+    AfterP(FirstLine),
     /// At the number before the point.
-    Major(HeadKind),
+    Major(FirstLine),
     /// At the point.
-    Point(HeadKind),
+    Point(FirstLine),
     /// At the number after the point.
-    Minor(HeadKind),
+    Minor(FirstLine),
     /// At the carriage return after the version of a request.
     Return,
     /// At the space after the version of a response.
@@ -85,7 +102,8 @@ impl HeadPlace {
     {
         match kind {
             HeadKind::Request => HeadPlace::Start,
-            HeadKind::Response => HeadPlace::Version(HeadKind::Response),
+            HeadKind::Response => HeadPlace::Version(FirstLine::Response),
+            HeadKind::Trailers => HeadPlace::Fields,
         }
     }
 
@@ -128,12 +146,12 @@ impl HeadPlace {
 
 /// Returns the state after a version.
 #[inline(always)]
-fn after_version(kind: HeadKind) -> HeadPlace
-    ensures { result ≡ after_version kind }
+fn after_version(line: FirstLine) -> HeadPlace
+    ensures { result ≡ after_version line }
 {
-    match kind {
-        HeadKind::Request => HeadPlace::Return,
-        HeadKind::Response => HeadPlace::Space,
+    match line {
+        FirstLine::Request => HeadPlace::Return,
+        FirstLine::Response => HeadPlace::Space,
     }
 }
 
@@ -224,16 +242,16 @@ pub(crate) fn place_after(place: HeadPlace, byte: u8) -> Option<HeadPlace>
             HeadPlace::Target,
             byte,
             b' ',
-            HeadPlace::Version(HeadKind::Request),
+            HeadPlace::Version(FirstLine::Request),
         ),
-        HeadPlace::Version(kind) => only(byte, b'H', HeadPlace::AfterH(kind)),
-        HeadPlace::AfterH(kind) => only(byte, b'T', HeadPlace::AfterT(kind)),
-        HeadPlace::AfterT(kind) => only(byte, b'T', HeadPlace::AfterTT(kind)),
-        HeadPlace::AfterTT(kind) => only(byte, b'P', HeadPlace::AfterP(kind)),
-        HeadPlace::AfterP(kind) => only(byte, b'/', HeadPlace::Major(kind)),
-        HeadPlace::Major(kind) => then_some(is_digit(byte), HeadPlace::Point(kind)),
-        HeadPlace::Point(kind) => only(byte, b'.', HeadPlace::Minor(kind)),
-        HeadPlace::Minor(kind) => then_some(is_digit(byte), after_version(kind)),
+        HeadPlace::Version(line) => only(byte, b'H', HeadPlace::AfterH(line)),
+        HeadPlace::AfterH(line) => only(byte, b'T', HeadPlace::AfterT(line)),
+        HeadPlace::AfterT(line) => only(byte, b'T', HeadPlace::AfterTT(line)),
+        HeadPlace::AfterTT(line) => only(byte, b'P', HeadPlace::AfterP(line)),
+        HeadPlace::AfterP(line) => only(byte, b'/', HeadPlace::Major(line)),
+        HeadPlace::Major(line) => then_some(is_digit(byte), HeadPlace::Point(line)),
+        HeadPlace::Point(line) => only(byte, b'.', HeadPlace::Minor(line)),
+        HeadPlace::Minor(line) => then_some(is_digit(byte), after_version(line)),
         HeadPlace::Return => only(byte, b'\r', HeadPlace::LineFeed),
         HeadPlace::Space => only(byte, b' ', HeadPlace::Hundreds),
         HeadPlace::Hundreds => then_some(is_digit(byte), HeadPlace::Tens),

@@ -1,9 +1,18 @@
 //! Where heads end.
-use super::{head_partial, response_head_partial};
+use super::{field_lines, head_partial, response_head_partial};
 use crate::{exports, Error, NOTHING};
 
-/// The state of a search for the end of the head of a request or response in input that arrives in
-/// chunks.
+/// What a search looks for.
+#[derive(Clone, Copy, Debug, Default, PartialEq, Eq)]
+enum Kind {
+    #[default]
+    Request,
+    Response,
+    FieldLines,
+}
+
+/// The state of a search for the end of the head of a request or response, or of field lines, in
+/// input that arrives in chunks.
 ///
 /// No call looks again at bytes that an earlier call scanned. So all calls for a head take time
 /// linear in its length, for any number of chunks, whereas
@@ -28,7 +37,7 @@ use crate::{exports, Error, NOTHING};
 #[derive(Clone, Debug, Default, PartialEq, Eq)]
 pub struct HeadExtent {
     state: exports::HttpHeadState,
-    is_of_response: bool,
+    kind: Kind,
 }
 
 impl HeadExtent {
@@ -48,7 +57,22 @@ impl HeadExtent {
     /// # Ok::<(), pergidau::Error>(())
     /// ```
     pub fn of_response() -> HeadExtent {
-        HeadExtent { is_of_response: true, ..HeadExtent::default() }
+        HeadExtent { kind: Kind::Response, ..HeadExtent::default() }
+    }
+
+    /// Returns the initial state for field lines and the empty line after them, such as a trailer
+    /// section.
+    ///
+    /// ```
+    /// use pergidau::http::HeadExtent;
+    ///
+    /// let mut extent = HeadExtent::of_field_lines();
+    /// assert_eq!(extent.advance(b"Digest: a\r")?, None);
+    /// assert_eq!(extent.advance(b"Digest: a\r\n\r\nrest")?, Some(13));
+    /// # Ok::<(), pergidau::Error>(())
+    /// ```
+    pub fn of_field_lines() -> HeadExtent {
+        HeadExtent { kind: Kind::FieldLines, ..HeadExtent::default() }
     }
 
     /// Returns the length in bytes of the head at the start of `bytes`, if it is complete.
@@ -61,10 +85,10 @@ impl HeadExtent {
     /// [`Error::InvalidHead`] if `bytes` does not start with a head, regardless of what follows; it
     /// holds the offset of the first invalid byte and the reason.
     pub fn advance(&mut self, bytes: &[u8]) -> Result<Option<usize>, Error> {
-        let export = if self.is_of_response {
-            exports::exported_http_response_head_extent
-        } else {
-            exports::exported_http_head_extent
+        let export = match self.kind {
+            Kind::Request => exports::exported_http_head_extent,
+            Kind::Response => exports::exported_http_response_head_extent,
+            Kind::FieldLines => exports::exported_http_field_lines_extent,
         };
         let mut out = 0;
         // SAFETY: the pointers are those of live borrows, and the bytes are only read. The call takes up
@@ -79,10 +103,10 @@ impl HeadExtent {
 
     /// Returns the error of the invalid head at the start of `bytes`, with its reason.
     fn reason(&self, bytes: &[u8]) -> Option<Error> {
-        let error = if self.is_of_response {
-            response_head_partial(bytes, &mut []).err()
-        } else {
-            head_partial(bytes, &mut []).err()
+        let error = match self.kind {
+            Kind::Request => head_partial(bytes, &mut []).err(),
+            Kind::Response => response_head_partial(bytes, &mut []).err(),
+            Kind::FieldLines => field_lines(bytes, &mut []).err(),
         };
         error.filter(|it| matches!(it, Error::InvalidHead { .. }))
     }

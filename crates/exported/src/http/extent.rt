@@ -11,11 +11,11 @@ ghost use Rattle.exported.specs.declared.http.extent.HttpHeadState.{HttpHeadStat
 use crate::code::{DONE, INCOMPLETE, INVALID};
 use format_http_places::extent::HeadExtent;
 use format_http_places::parts::HeadKind;
-use format_http_places::state::HeadPlace;
+use format_http_places::state::{FirstLine, HeadPlace};
 
-/// The state of a search for the end of the head of a request or a response. Only the functions of
-/// this library may interpret its fields. All zeros is the initial state; start from it for each
-/// head.
+/// The state of a search for the end of the head of a request or a response, or of field lines.
+/// Only the functions of this library may interpret its fields. All zeros is the initial state;
+/// start from it for each head.
 #[repr(C)]
 #[derive(Clone, Copy, Drop)]
 pub struct HttpHeadState {
@@ -35,22 +35,22 @@ fn place_of(kind: HeadKind, number: usize) -> HeadPlace
         2 => HeadPlace::Method,
         3 => HeadPlace::TargetStart,
         4 => HeadPlace::Target,
-        5 => HeadPlace::Version(HeadKind::Request),
-        6 => HeadPlace::AfterH(HeadKind::Request),
-        7 => HeadPlace::AfterT(HeadKind::Request),
-        8 => HeadPlace::AfterTT(HeadKind::Request),
-        9 => HeadPlace::AfterP(HeadKind::Request),
-        10 => HeadPlace::Major(HeadKind::Request),
-        11 => HeadPlace::Point(HeadKind::Request),
-        12 => HeadPlace::Minor(HeadKind::Request),
-        13 => HeadPlace::Version(HeadKind::Response),
-        14 => HeadPlace::AfterH(HeadKind::Response),
-        15 => HeadPlace::AfterT(HeadKind::Response),
-        16 => HeadPlace::AfterTT(HeadKind::Response),
-        17 => HeadPlace::AfterP(HeadKind::Response),
-        18 => HeadPlace::Major(HeadKind::Response),
-        19 => HeadPlace::Point(HeadKind::Response),
-        20 => HeadPlace::Minor(HeadKind::Response),
+        5 => HeadPlace::Version(FirstLine::Request),
+        6 => HeadPlace::AfterH(FirstLine::Request),
+        7 => HeadPlace::AfterT(FirstLine::Request),
+        8 => HeadPlace::AfterTT(FirstLine::Request),
+        9 => HeadPlace::AfterP(FirstLine::Request),
+        10 => HeadPlace::Major(FirstLine::Request),
+        11 => HeadPlace::Point(FirstLine::Request),
+        12 => HeadPlace::Minor(FirstLine::Request),
+        13 => HeadPlace::Version(FirstLine::Response),
+        14 => HeadPlace::AfterH(FirstLine::Response),
+        15 => HeadPlace::AfterT(FirstLine::Response),
+        16 => HeadPlace::AfterTT(FirstLine::Response),
+        17 => HeadPlace::AfterP(FirstLine::Response),
+        18 => HeadPlace::Major(FirstLine::Response),
+        19 => HeadPlace::Point(FirstLine::Response),
+        20 => HeadPlace::Minor(FirstLine::Response),
         21 => HeadPlace::Return,
         22 => HeadPlace::Space,
         23 => HeadPlace::Hundreds,
@@ -75,22 +75,22 @@ fn number_of(place: HeadPlace) -> usize
         HeadPlace::Method => 2,
         HeadPlace::TargetStart => 3,
         HeadPlace::Target => 4,
-        HeadPlace::Version(HeadKind::Request) => 5,
-        HeadPlace::AfterH(HeadKind::Request) => 6,
-        HeadPlace::AfterT(HeadKind::Request) => 7,
-        HeadPlace::AfterTT(HeadKind::Request) => 8,
-        HeadPlace::AfterP(HeadKind::Request) => 9,
-        HeadPlace::Major(HeadKind::Request) => 10,
-        HeadPlace::Point(HeadKind::Request) => 11,
-        HeadPlace::Minor(HeadKind::Request) => 12,
-        HeadPlace::Version(HeadKind::Response) => 13,
-        HeadPlace::AfterH(HeadKind::Response) => 14,
-        HeadPlace::AfterT(HeadKind::Response) => 15,
-        HeadPlace::AfterTT(HeadKind::Response) => 16,
-        HeadPlace::AfterP(HeadKind::Response) => 17,
-        HeadPlace::Major(HeadKind::Response) => 18,
-        HeadPlace::Point(HeadKind::Response) => 19,
-        HeadPlace::Minor(HeadKind::Response) => 20,
+        HeadPlace::Version(FirstLine::Request) => 5,
+        HeadPlace::AfterH(FirstLine::Request) => 6,
+        HeadPlace::AfterT(FirstLine::Request) => 7,
+        HeadPlace::AfterTT(FirstLine::Request) => 8,
+        HeadPlace::AfterP(FirstLine::Request) => 9,
+        HeadPlace::Major(FirstLine::Request) => 10,
+        HeadPlace::Point(FirstLine::Request) => 11,
+        HeadPlace::Minor(FirstLine::Request) => 12,
+        HeadPlace::Version(FirstLine::Response) => 13,
+        HeadPlace::AfterH(FirstLine::Response) => 14,
+        HeadPlace::AfterT(FirstLine::Response) => 15,
+        HeadPlace::AfterTT(FirstLine::Response) => 16,
+        HeadPlace::AfterP(FirstLine::Response) => 17,
+        HeadPlace::Major(FirstLine::Response) => 18,
+        HeadPlace::Point(FirstLine::Response) => 19,
+        HeadPlace::Minor(FirstLine::Response) => 20,
         HeadPlace::Return => 21,
         HeadPlace::Space => 22,
         HeadPlace::Hundreds => 23,
@@ -236,12 +236,53 @@ pub extern "C" fn exported_http_response_head_extent(
     find_end(HeadKind::Response, state, bytes, out)
 }
 
-/// States that successive calls of `exported_http_head_extent`, or of
-/// `exported_http_response_head_extent`, give the result of one call. The first call starts with
-/// zeros, and each further call has the state that the previous one left,
-/// and its bytes followed by another chunk. If all calls return `INCOMPLETE`, the last state is a
-/// state of these bytes, regardless of what follows. So the next call returns the result that a
-/// call with zeros returns for all of its bytes.
+/// Finds the end of field lines and the empty line after them, such as a trailer section (RFC 9112,
+/// section 7.1.2), in input that arrives in chunks, as `exported_http_head_extent` does for heads,
+/// with a state of its own. To obtain the fields, or the reason of an error, pass all bytes to
+/// `exported_http_field_lines`.
+///
+/// For the first call, `state` must be all zeros. Each further call for the same field lines must
+/// have the state that the previous call left, and the bytes of the previous call followed by more
+/// bytes.
+///
+/// `DONE`: `bytes` starts with field lines and an empty line, whose length is written. Reset the
+/// state to zeros for the next ones.
+///
+/// `INCOMPLETE`: the empty line is not there yet, but more bytes can complete it. 0 is written.
+///
+/// If `state` belongs to other bytes or was modified, the result may be wrong, but nothing outside
+/// `bytes` is read.
+///
+/// # Errors
+///
+/// `INVALID`: `bytes` does not start with field lines and an empty line, regardless of what
+/// follows. The first offset at which they cannot continue is written.
+///
+/// # Safety
+///
+/// `state` must be valid for reads and writes of one state, and `out` for writes of one length.
+/// `bytes` must be valid for reads of `bytes_length` bytes, which must not change during the call.
+/// None of these may overlap. The call needs 16 KiB of stack.
+#[unsafe(no_mangle)]
+pub extern "C" fn exported_http_field_lines_extent(
+    state: &mut HttpHeadState,
+    bytes: &[u8],
+    out: &mut usize,
+) -> u32
+    ensures told { IsOf HeadKind.Trailers (head_extent_of HeadKind.Trailers state.old) bytes.now
+        → TellsHead HeadKind.Trailers bytes.now result out.new state.new }
+    ensures none { result ≡ incomplete → out.new ≡ 0 }
+    ensures within { out.new ≤ length bytes.now }
+    ensures codes { (result ≡ done) ⊎ ((result ≡ incomplete) ⊎ (result ≡ invalid)) }
+{
+    find_end(HeadKind::Trailers, state, bytes, out)
+}
+
+/// States that successive calls of one of these functions give the result of one call. The first
+/// call starts with zeros, and each further call has the state that the previous one left, and its
+/// bytes followed by another chunk. If all calls return `INCOMPLETE`, the last state is a state of
+/// these bytes, regardless of what follows. So the next call returns the result that a call with
+/// zeros returns for all of its bytes.
 pub fn calls_in_turn_are_of_their_bytes()
     ensures { (kind : HeadKind) (pieces : List (List ℕ)) (state : HttpHeadState)
         → HeadCalls kind nothing [] pieces state

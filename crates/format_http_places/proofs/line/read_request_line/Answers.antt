@@ -1,6 +1,6 @@
 use Rattle.std.proofs.Common.{refl}
 use Rattle.format_http.specs.Heads.Bytes.{IsTokenByte, IsVisible}
-use Rattle.format_http_places.specs.declared.parts.HeadKind.TheVariants as kind
+use Rattle.format_http_places.specs.declared.state.FirstLine.TheVariants as first
 use Rattle.format_http_places.specs.declared.state.HeadPlace.TheVariants as place
 use Rattle.format_http_places.proofs.Continues.{not_some, past_ended, stops}
 use Rattle.format_http_places.proofs.Passed.{passed}
@@ -21,7 +21,7 @@ returns-in_err-last c =
     (stops (past_ended IsTokenByte 32 c.token_len-method.result (token_not 32 refl)
     c.token_len-method.ensures line.0 line.1)
     (not_some IsVisible 32 65 c.target_len-target.result a_visible (visible_not 32 refl)
-    (live_at (place.Version kind.Request)) c.target_len-target.ensures c.in_err-last.ensures))
+    (live_at (place.Version first.Request)) c.target_len-target.ensures c.in_err-last.ensures))
 
 pub returns-in_err-version : goal.returns-in_err-version
 returns-in_err-version c =

@@ -1,7 +1,7 @@
 use Rattle.std.proofs.Common.{◌∙◌, ◌++◌, ap}
 use Rattle.format_http.specs.Heads.RequestLine.{digits}
 use Rattle.format_http_places.specs.Grammar.{protocol}
-use Rattle.format_http_places.specs.declared.parts.HeadKind.TheVariants as kind
+use Rattle.format_http_places.specs.declared.state.FirstLine.TheVariants as first
 use Rattle.format_http_places.specs.declared.state.HeadPlace.TheVariants as place
 use Rattle.format_http_places.proofs.Continues.{end_stops, stops}
 use Rattle.format_http_places.proofs.Lines.{past_version}
@@ -11,7 +11,7 @@ use Rattle.format_http_places.proofs.line.read_version.Goals as goal
 
 pub returns-in_err-numbers : goal.returns-in_err-numbers
 returns-in_err-numbers c = passed _ _ _ c.in_err-numbers.field-0.0 c.from_residual.ensures.1
-    (c.in_err-numbers.ensures kind.Request)
+    (c.in_err-numbers.ensures first.Request)
 
 pub returns-in_err-rest : goal.returns-in_err-rest
 returns-in_err-rest c =

@@ -1,6 +1,6 @@
 use Rattle.std.proofs.Common.{refl}
 use Rattle.format_http.specs.Heads.Bytes.{IsDigit, IsTokenByte, IsValueByte, IsVisible}
-use Rattle.format_http_places.specs.declared.parts.HeadKind.TheVariants as kind
+use Rattle.format_http_places.specs.declared.state.FirstLine.TheVariants as first
 use Rattle.format_http_places.specs.declared.state.HeadPlace.TheVariants as place
 use Rattle.format_http_places.proofs.PlaceSteps.{minor_step, runs_to, step_at, step_if, step_only}
 use Rattle.format_http_places.proofs.PlaceSteps.{step_run, takes_byte, takes_one}
@@ -22,41 +22,41 @@ returns-in-TargetStart c = step_if IsVisible place.Target c.is_visible.result
     c.is_visible.ensures c.then_some-in-TargetStart.ensures
 
 pub returns-in-Target : goal.returns-in-Target
-returns-in-Target c = step_run IsVisible 32 (place.Version kind.Request) c.args.byte
+returns-in-Target c = step_run IsVisible 32 (place.Version first.Request) c.args.byte
     c.is_visible-in-Target.result c.or_run-in-Target.result c.in-Target.is (runs_to IsVisible 32
     (visible_not 32 refl)) c.is_visible-in-Target.ensures c.or_run-in-Target.ensures
 
 pub returns-in-Version : goal.returns-in-Version
-returns-in-Version c = step_only 72 (place.AfterH c.in-Version.kind) c.only.result c.in-Version.is
+returns-in-Version c = step_only 72 (place.AfterH c.in-Version.line) c.only.result c.in-Version.is
     (takes_byte 72) c.only.ensures
 
 pub returns-in-AfterH : goal.returns-in-AfterH
-returns-in-AfterH c = step_only 84 (place.AfterT c.in-AfterH.kind) c.only-in-AfterH.result
+returns-in-AfterH c = step_only 84 (place.AfterT c.in-AfterH.line) c.only-in-AfterH.result
     c.in-AfterH.is (takes_byte 84) c.only-in-AfterH.ensures
 
 pub returns-in-AfterT : goal.returns-in-AfterT
-returns-in-AfterT c = step_only 84 (place.AfterTT c.in-AfterT.kind) c.only-in-AfterT.result
+returns-in-AfterT c = step_only 84 (place.AfterTT c.in-AfterT.line) c.only-in-AfterT.result
     c.in-AfterT.is (takes_byte 84) c.only-in-AfterT.ensures
 
 pub returns-in-AfterTT : goal.returns-in-AfterTT
-returns-in-AfterTT c = step_only 80 (place.AfterP c.in-AfterTT.kind) c.only-in-AfterTT.result
+returns-in-AfterTT c = step_only 80 (place.AfterP c.in-AfterTT.line) c.only-in-AfterTT.result
     c.in-AfterTT.is (takes_byte 80) c.only-in-AfterTT.ensures
 
 pub returns-in-AfterP : goal.returns-in-AfterP
-returns-in-AfterP c = step_only 47 (place.Major c.in-AfterP.kind) c.only-in-AfterP.result
+returns-in-AfterP c = step_only 47 (place.Major c.in-AfterP.line) c.only-in-AfterP.result
     c.in-AfterP.is (takes_byte 47) c.only-in-AfterP.ensures
 
 pub returns-in-Major : goal.returns-in-Major
-returns-in-Major c = step_if IsDigit (place.Point c.in-Major.kind) c.is_digit.result
+returns-in-Major c = step_if IsDigit (place.Point c.in-Major.line) c.is_digit.result
     c.then_some-in-Major.result c.in-Major.is (takes_one IsDigit) c.is_digit.ensures
     c.then_some-in-Major.ensures
 
 pub returns-in-Point : goal.returns-in-Point
-returns-in-Point c = step_only 46 (place.Minor c.in-Point.kind) c.only-in-Point.result
+returns-in-Point c = step_only 46 (place.Minor c.in-Point.line) c.only-in-Point.result
     c.in-Point.is (takes_byte 46) c.only-in-Point.ensures
 
 pub returns-in-Minor : goal.returns-in-Minor
-returns-in-Minor c = minor_step c.in-Minor.kind c.after_version.result c.args.byte
+returns-in-Minor c = minor_step c.in-Minor.line c.after_version.result c.args.byte
     c.is_digit-in-Minor.result c.then_some-in-Minor.result c.in-Minor.is c.after_version.ensures
     c.is_digit-in-Minor.ensures c.then_some-in-Minor.ensures
 

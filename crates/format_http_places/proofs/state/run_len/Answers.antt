@@ -1,6 +1,6 @@
 use Rattle.std.proofs.Common.{inl, inr, refl}
 use Rattle.format_http.specs.Heads.Bytes.{IsTokenByte, IsValueByte, IsVisible}
-use Rattle.format_http_places.specs.declared.parts.HeadKind.TheVariants as kind
+use Rattle.format_http_places.specs.declared.state.FirstLine.TheVariants as first
 use Rattle.format_http_places.specs.declared.state.HeadPlace.TheVariants as place
 use Rattle.format_http_places.proofs.PlaceSteps.{run_at, runs_to}
 use Rattle.format_http_places.proofs.Tests.{token_not, value_not, visible_not}
@@ -8,7 +8,7 @@ use Rattle.format_http_places.proofs.state.run_len.Goals as goal
 
 pub returns-in-Target-clause-same : goal.returns-in-Target-clause-same
 returns-in-Target-clause-same c = run_at IsVisible 32 c.target_len.result
-    (place.Version kind.Request) c.args.bytes.now c.in-Target.is
+    (place.Version first.Request) c.args.bytes.now c.in-Target.is
     (runs_to IsVisible 32 (visible_not 32 refl)) c.target_len.ensures
 
 pub returns-in-Value-clause-same : goal.returns-in-Value-clause-same

@@ -1,4 +1,4 @@
-use Rattle.format_http_places.specs.declared.parts.HeadKind.TheVariants as kind
+use Rattle.format_http_places.specs.declared.state.FirstLine.TheVariants as first
 use Rattle.format_http_places.specs.declared.state.HeadPlace.TheVariants as place
 use Rattle.format_http_places.proofs.Continues.{not_byte, past_byte, stops}
 use Rattle.format_http_places.proofs.Lines.{past_code, past_version}
@@ -9,7 +9,7 @@ use Rattle.format_http_places.proofs.status.read_status_line.Goals as goal
 
 pub returns-in_err-version : goal.returns-in_err-version
 returns-in_err-version c = passed _ _ _ c.in_err-version.field-0.0 c.from_residual.ensures.1
-    (c.in_err-version.ensures kind.Response)
+    (c.in_err-version.ensures first.Response)
 
 pub returns-in_err-digits : goal.returns-in_err-digits
 returns-in_err-digits c =
