@@ -9,4 +9,6 @@ mod heads;
 #[cfg(test)]
 mod responses;
 #[cfg(test)]
+mod slices;
+#[cfg(test)]
 mod trailers;

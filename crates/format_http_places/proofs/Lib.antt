@@ -8,6 +8,7 @@ pub mod Passed
 pub mod PlaceSteps
 pub mod Shown
 pub mod Sixteen
+pub mod SliceSteps
 pub mod States
 pub mod Tests
 pub mod Trimmed

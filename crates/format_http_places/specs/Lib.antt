@@ -6,4 +6,5 @@ pub mod Refusals
 pub mod Responses
 pub mod Runs
 pub mod Sections
+pub mod Slices
 pub mod States

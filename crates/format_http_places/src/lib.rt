@@ -11,6 +11,7 @@ pub mod places;
 pub mod read;
 pub mod response;
 mod runs;
+pub mod slices;
 pub mod state;
 mod status;
 mod stop;
