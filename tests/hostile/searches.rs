@@ -1,4 +1,4 @@
-//! Worst cases of searches, of up to 1 MiB: a search that looked at an offset again and again would
+//! Worst cases of searches, of up to 128 KiB: a search that looked at an offset again and again would
 //! exceed the time limit of a test.
 use crate::counts::times;
 use std::alloc::Global;
@@ -13,7 +13,7 @@ use winnow_token::token::impls::{Any, TakeUntil};
 use winnow_token::token::take_until;
 
 /// The bytes of the inputs.
-const SIZE: usize = 1 << 20;
+const SIZE: usize = 1 << 17;
 
 /// Returns how many bytes precede a literal, and how many remain.
 fn before<'b>(literal: &'b [u8], bytes: &'b [u8]) -> (Result<usize, Kind>, usize) {
