@@ -9,6 +9,7 @@ pub mod NodeTokens
 pub mod NodeWhole
 pub mod NodeWriting
 pub mod Parts
+pub mod Pointing
 pub mod Runs
 pub mod Scalars
 pub mod Scanning

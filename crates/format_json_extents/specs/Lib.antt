@@ -5,6 +5,7 @@ pub mod Names
 pub mod NodeWriting
 pub mod Nodes
 pub mod Number
+pub mod Pointer
 pub mod Standard
 pub mod StepLists
 pub mod Steps

@@ -27,6 +27,7 @@ pub mod names;
 pub mod node;
 pub mod nodes;
 pub mod number;
+pub mod pointer;
 pub mod scalar;
 pub mod steps;
 pub mod string;

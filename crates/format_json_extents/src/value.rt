@@ -83,10 +83,10 @@ fn skip_items<'i>(keyed: bool, level: usize, bytes: &'i [u8]) -> Option<&'i [u8]
     }
 }
 
-/// Skips the longest value.
+/// Skips the longest value that the bytes start with, as [`read_value`] does.
 #[cycle(nesting)]
 #[inline(always)]
-fn skip_value<'i>(level: usize, bytes: &'i [u8]) -> Option<&'i [u8]>
+pub fn skip_value<'i>(level: usize, bytes: &'i [u8]) -> Option<&'i [u8]>
     ensures { MatchOption result (NoneStands (IsValue level) bytes.now)
         (λ rest. RestAfter (IsValue level) (IsNumberByteOf bytes.now) bytes.now rest.now) }
 {
