@@ -21,11 +21,11 @@ use std::fmt::{Debug, Display};
 pub enum StrContext {
     /// The name of what is parsed.
     Label(&'static str),
-    /// What was expected.
+    /// An item that was expected.
     Expected(StrContextValue),
 }
 
-/// What a parser expected.
+/// An item that a parser expected.
 ///
 /// ```
 /// assert_eq!(rt; StrContextValue::from('='), StrContextValue::CharLiteral('='));
