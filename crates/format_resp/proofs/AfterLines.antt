@@ -4,24 +4,17 @@ use Rattle.std.specs.Prelude.{◌≡◌, ◌<◌, ◌^◌, ℕ, zero, suc, List,
 use Rattle.std.specs.Prelude.{length}
 use Rattle.std.specs.Borrow.{Bor}
 use Rattle.std.proofs.Common.{refl, sym, ap, subst, ◌∙◌, append_assoc}
-use Rattle.streams.specs.Equal.{none_is_some, same_some}
 use Rattle.winnow_grammar.specs.InTurn.{First, Led}
 use Rattle.grammars.specs.Texts.{EachText}
-use Rattle.format_resp.proofs.Made.{big_number_is, boolean_is, double_is, error_is, gathered_is}
-use Rattle.format_resp.proofs.Made.{integer_is, null_array_is, null_bulk_is, null_is, simple_is}
-use Rattle.format_resp.proofs.Made.{string_is}
+use Rattle.format_resp.proofs.Made.{gathered_is, string_is, shaped, null_is}
 use Rattle.format_resp.proofs.WrittenTexts.{few, list_for}
 use Rattle.format_resp.specs.Extents.{IsReplyOf, MatchesAtStart, Times}
-use Rattle.format_resp.specs.Heads.{HeadText, IsSmall, Says, head_after}
-use Rattle.format_resp.specs.Resp.{AggregateBehind, Any, Body, DataBehind, Elements, ElementsIn}
-use Rattle.format_resp.specs.Resp.{Ended, LineSays, Replies, ReplyText, SizeText}
-use Rattle.format_resp.specs.Resp.{StringText, formatted, gathered, many, shape}
+use Rattle.format_resp.specs.Heads.{HeadText, IsSmall, Says, IsAfter}
+use Rattle.format_resp.specs.Resp.{Any, Body, Elements, ElementsIn, Ended, LineSays, Replies}
+use Rattle.format_resp.specs.Resp.{ReplyText, SizeText, StringText, formatted, gathered, many}
+use Rattle.format_resp.specs.Resp.{AfterSize}
 use Rattle.format_resp.specs.declared.heads.Head.{Head}
 use Rattle.format_resp.specs.declared.heads.Head.TheVariants as heads
-use Rattle.format_resp.specs.declared.marks.AggregateMark.{AggregateMark}
-use Rattle.format_resp.specs.declared.marks.AggregateMark.TheVariants.{Star}
-use Rattle.format_resp.specs.declared.marks.DataMark.{DataMark}
-use Rattle.format_resp.specs.declared.marks.DataMark.TheVariants.{Dollar}
 use Rattle.format_resp.specs.declared.marks.LineMark.{LineMark}
 use Rattle.format_resp.specs.declared.marks.LineMark.TheVariants.{Colon, Comma, Hash, Minus}
 use Rattle.format_resp.specs.declared.marks.LineMark.TheVariants.{Parenthesis, Plus, Underscore}
@@ -29,17 +22,20 @@ use Rattle.format_resp.specs.declared.marks.Mark.{Mark}
 use Rattle.format_resp.specs.declared.marks.Mark.TheVariants.{Aggregate, Data, Line}
 use Rattle.format_resp.specs.declared.reply.Protocol.{Protocol}
 use Rattle.format_resp.specs.declared.reply.Reply as made
+use Rattle.format_resp.specs.declared.reply.Reply.TheViews.{rolls-BigNumber, rolls-Boolean}
+use Rattle.format_resp.specs.declared.reply.Reply.TheViews.{rolls-Double, rolls-Error}
+use Rattle.format_resp.specs.declared.reply.Reply.TheViews.{rolls-Integer, rolls-Null, rolls-Simple}
 
 pub line_any : {A B : Type 0} (mark : LineMark) (reply : Replies A) (line : List ℕ)
     → LineSays Any mark reply line → (other : Replies B) × LineSays Any mark other line
-line_any Plus reply line (x, is, a) = (made.Simple x, (x, ap shape (simple_is x), a))
-line_any Minus reply line (x, is, a) = (made.Error x, (x, ap shape (error_is x), a))
-line_any Colon reply line (n, is, a) = (made.Integer n, (n, ap shape (integer_is n), a))
-line_any Underscore reply line (is, e) = (made.Null, (ap shape null_is, e))
-line_any Hash reply line (b, is, a) = (made.Boolean b, (b, ap shape (boolean_is b), a))
-line_any Comma reply line (x, is, a) = (made.Double x, (x, ap shape (double_is x), a))
+line_any Plus reply line (x, is, a) = (made.Simple x, (x, shaped _ refl (rolls-Simple x), a))
+line_any Minus reply line (x, is, a) = (made.Error x, (x, shaped _ refl (rolls-Error x), a))
+line_any Colon reply line (n, is, a) = (made.Integer n, (n, shaped _ refl (rolls-Integer n), a))
+line_any Underscore reply line (is, e) = (made.Null, (shaped _ refl rolls-Null, e))
+line_any Hash reply line (b, is, a) = (made.Boolean b, (b, shaped _ refl (rolls-Boolean b), a))
+line_any Comma reply line (x, is, a) = (made.Double x, (x, shaped _ refl (rolls-Double x), a))
 line_any Parenthesis reply line (x, is, a) =
-    (made.BigNumber x, (x, ap shape (big_number_is x), a))
+    (made.BigNumber x, (x, shaped _ refl (rolls-BigNumber x), a))
 
 -- a relation of what is before a step and what is after it
 abbrev pub Step : Type 1
@@ -66,10 +62,9 @@ behind_as leads heads.Ends tokens rest e = e
 behind_as leads (heads.Data bulk) tokens rest x = x
 behind_as leads (heads.Replies n) tokens rest x = leads n tokens rest x
 
-as_head : (these : ℕ → Step) (tokens rest : List ℕ) {head other : Head} → Some other ≡ Some head
+as_head : (these : ℕ → Step) (tokens rest : List ℕ) {head other : Head} → other ≡ head
     → Behind these head tokens rest → Behind these other tokens rest
-as_head these tokens rest is =
-    subst (λ h. Behind these h tokens rest) (sym (same_some is))
+as_head these tokens rest is = subst (λ h. Behind these h tokens rest) (sym is)
 
 -- a reply at a depth, with this allocator
 abbrev pub At : Type 0 → Protocol → ℕ → Step
@@ -126,34 +121,27 @@ module _ {A : Type 0} (protocol : Protocol) where
 module _ {A : Type 0} (protocol : Protocol) (level : ℕ) (rest : List ℕ) where
   -- ---- the first line, and what follows
 
-  data_there : (mark : DataMark) (size : Option ℕ) (reply : Replies A) (xs : List ℕ)
-      → DataBehind mark size reply xs → (head : Head) × (head_after (Data mark) size ≡ Some head)
-      × IsSmall head × Behind (Inner A protocol level) head (xs ++ rest) rest
+  follows_there : (mark : Mark) (size : Option ℕ) (reply : Replies A) (xs : List ℕ)
+      → AfterSize (Elements protocol level) mark size reply xs
+      → (head : Head) × IsAfter mark size head × IsSmall head
+      × Behind (Inner A protocol level) head (xs ++ rest) rest
   unfolding First
-  data_there mark (Some n) reply xs (bytes, is, t) = (
+  follows_there mark None reply xs (null, (is, empty)) =
+      (heads.Ends, (null, refl), tt, ap (λ l. l ++ rest) empty)
+  follows_there (Line mark) (Some n) reply xs never = absurd never
+  follows_there (Data mark) (Some n) reply xs (bytes, is, t) = (
     heads.Data (record { size = n; verbatim = formatted mark }),
     refl,
     tt,
     (bytes, (xs, t, refl)),
   )
-  data_there Dollar None reply xs (is, empty) =
-      (heads.Ends, refl, tt, ap (λ l. l ++ rest) empty)
-  data_there mark None reply xs never = absurd never
-
-  aggregate_there : (mark : AggregateMark) (size : Option ℕ) (reply : Replies A) (xs : List ℕ)
-      → AggregateBehind (Elements protocol level) mark size reply xs
-      → (head : Head) × (head_after (Aggregate mark) size ≡ Some head) × IsSmall head
-      × Behind (Inner A protocol level) head (xs ++ rest) rest
-  aggregate_there mark (Some n) reply xs (list, is, (count, row)) = (
+  follows_there (Aggregate mark) (Some n) reply xs (list, is, (count, row)) = (
     heads.Replies (many mark n),
     refl,
     subst (λ k. k < 2 ^ 63) count (few list),
     subst (λ k. Inner A protocol level k (xs ++ rest) rest) count
         (elements_times protocol level list.items xs rest row),
   )
-  aggregate_there Star None reply xs (is, empty) =
-      (heads.Ends, refl, tt, ap (λ l. l ++ rest) empty)
-  aggregate_there mark None reply xs never = absurd never
 
   body_there : (mark : Mark) (reply : Replies A) (xs : List ℕ)
       → Body Any (Elements protocol level) mark reply xs
@@ -162,15 +150,9 @@ module _ {A : Type 0} (protocol : Protocol) (level : ℕ) (rest : List ℕ) wher
   unfolding First Led Ended SizeText
   body_there (Line mark) reply xs (line, says, e) =
       (heads.Ends, rest, (xs, (line, (refl, line_any mark reply line says), e), refl), refl)
-  body_there (Data mark) reply xs (size, us, vs, (line, a, f), b, e) =
-      let (head, is, small, behind) = data_there mark size reply vs b in (
-        head,
-        vs ++ rest,
-        (us, (line, (size, a, is, small), f), ap (λ l. l ++ rest) e ∙ append_assoc us vs rest),
-        behind,
-      )
-  body_there (Aggregate mark) reply xs (size, us, vs, (line, a, f), b, e) =
-      let (head, is, small, behind) = aggregate_there mark size reply vs b in (
+  body_there mark reply xs body =
+      let (size, us, vs, (line, a, f), b, e) = body in
+      let (head, is, small, behind) = follows_there mark size reply vs b in (
         head,
         vs ++ rest,
         (us, (line, (size, a, is, small), f), ap (λ l. l ++ rest) e ∙ append_assoc us vs rest),
@@ -196,48 +178,33 @@ module _ {A : Type 0} (protocol : Protocol) (level : ℕ) (rest : List ℕ) wher
 
   -- ---- and back
 
-  data_back : (mark : DataMark) (size : Option ℕ) (head : Head) (tokens : List ℕ)
-      → head_after (Data mark) size ≡ Some head → Behind (Inner A protocol level) head tokens rest
-      → (reply : Replies A) × (vs : List ℕ) × DataBehind mark size reply vs
-      × (tokens ≡ vs ++ rest)
-  unfolding First
-  data_back mark (Some n) head tokens is behind =
-      let (bytes, (vs, t, e)) = as_head (Inner A protocol level) tokens rest is behind in
-      let (reply, made) = string_is mark bytes in (reply, vs, (bytes, made, t), e)
-  data_back Dollar None head tokens is behind = (
-    made.NullBulk,
-    [],
-    (ap shape null_bulk_is, refl),
-    as_head (Inner A protocol level) tokens rest is behind,
-  )
-  data_back mark None head tokens is behind = none_is_some is
-
   module _ (alloc : A) where
-    aggregate_back : (mark : AggregateMark) (size : Option ℕ) (head : Head) (tokens : List ℕ)
-        → head_after (Aggregate mark) size ≡ Some head → IsSmall head
-        → Behind (Inner A protocol level) head tokens rest
+    follows_back : (mark : Mark) (size : Option ℕ) (head : Head) (tokens : List ℕ)
+        → IsAfter mark size head → IsSmall head → Behind (Inner A protocol level) head tokens rest
         → (reply : Replies A) × (vs : List ℕ)
-        × AggregateBehind (Elements protocol level) mark size reply vs × (tokens ≡ vs ++ rest)
-    aggregate_back mark (Some n) head tokens is small behind =
+        × AfterSize (Elements protocol level) mark size reply vs × (tokens ≡ vs ++ rest)
+    unfolding First
+    follows_back mark None head tokens (null, is) small behind =
+        let (reply, shape_is) = null_is mark null in (
+          reply,
+          [],
+          (null, (shape_is, refl)),
+          as_head (Inner A protocol level) tokens rest is behind,
+        )
+    follows_back (Line mark) (Some n) head tokens never small behind = absurd never
+    follows_back (Data mark) (Some n) head tokens is small behind =
+        let (bytes, (vs, t, e)) = as_head (Inner A protocol level) tokens rest is behind in
+        let (reply, shape_is) = string_is mark bytes in (reply, vs, (bytes, shape_is, t), e)
+    follows_back (Aggregate mark) (Some n) head tokens is small behind =
         let (os, count, (vs, row, e)) =
         times_elements protocol level (many mark n) tokens rest
         (as_head (Inner A protocol level) tokens rest is behind) in
-        let less : many mark n < 2 ^ 63 = subst IsSmall (sym (same_some is)) small in
+        let less : many mark n < 2 ^ 63 = subst IsSmall (sym is) small in
         let (list, same) = list_for alloc os (subst (λ k. k < 2 ^ 63) (sym count) less) in
         let Q : List (Replies A) → Type 0 = λ l.
-        (length l ≡ many mark n) × Elements protocol level l vs in (
-          gathered mark list,
-          vs,
-          (list, gathered_is mark list refl, subst Q (sym same) (count, row)),
-          e,
-        )
-    aggregate_back Star None head tokens is small behind = (
-      made.NullArray,
-      [],
-      (ap shape null_array_is, refl),
-      as_head (Inner A protocol level) tokens rest is behind,
-    )
-    aggregate_back mark None head tokens is small behind = none_is_some is
+        (length l ≡ many mark n) × Elements protocol level l vs in
+        let are = subst Q (sym same) (count, row) in
+        (gathered mark list, vs, (list, gathered_is mark list refl, are), e)
 
     body_back : (mark : Mark) (head : Head) (us mid : List ℕ) → Ended (Says mark) head us
         → Behind (Inner A protocol level) head mid rest
@@ -248,15 +215,9 @@ module _ {A : Type 0} (protocol : Protocol) (level : ℕ) (rest : List ℕ) wher
         let (other, also) = line_any mark reply line says in
         let P : Head → Type 0 = λ h. Behind (Inner A protocol level) h mid rest in
         (other, us, (line, also, e), ap (λ l. us ++ l) (subst P is behind))
-    body_back (Data mark) head us mid (line, (size, a, is, small), e) behind =
-        let (reply, vs, b, f) = data_back mark size head mid is behind in (
-          reply,
-          us ++ vs,
-          (size, us, vs, (line, a, e), b, refl),
-          ap (λ l. us ++ l) f ∙ sym (append_assoc us vs rest),
-        )
-    body_back (Aggregate mark) head us mid (line, (size, a, is, small), e) behind =
-        let (reply, vs, b, f) = aggregate_back mark size head mid is small behind in (
+    body_back mark head us mid ended behind =
+        let (line, (size, a, is, small), e) = ended in
+        let (reply, vs, b, f) = follows_back mark size head mid is small behind in (
           reply,
           us ++ vs,
           (size, us, vs, (line, a, e), b, refl),

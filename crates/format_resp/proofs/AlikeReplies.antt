@@ -12,13 +12,9 @@ use Rattle.format_resp.proofs.Encodings.{nothing_left, rows_determined}
 use Rattle.grammars.specs.Grammar.{IsUnique}
 use Rattle.format_resp.proofs.FirstBytes.{mark_splits}
 use Rattle.format_resp.specs.Alike.{AreAlike, AreAlikeBy, HoldAlike}
-use Rattle.format_resp.specs.Resp.{AggregateBehind, Any, Body, BooleanText, Content, DataBehind}
-use Rattle.format_resp.specs.Resp.{Elements, ElementsIn, Ended, LineSays, MarkText, Replies}
-use Rattle.format_resp.specs.Resp.{ReplyText, Shown, SizeText, shape_of}
-use Rattle.format_resp.specs.declared.marks.AggregateMark.{AggregateMark}
-use Rattle.format_resp.specs.declared.marks.AggregateMark.TheVariants.{Star}
-use Rattle.format_resp.specs.declared.marks.DataMark.{DataMark}
-use Rattle.format_resp.specs.declared.marks.DataMark.TheVariants.{Dollar}
+use Rattle.format_resp.specs.Resp.{Any, Body, BooleanText, Content, Elements, ElementsIn, Ended}
+use Rattle.format_resp.specs.Resp.{LineSays, MarkText, Replies, ReplyText, Shown, SizeText}
+use Rattle.format_resp.specs.Resp.{shape_of, AfterSize}
 use Rattle.format_resp.specs.declared.marks.LineMark.{LineMark}
 use Rattle.format_resp.specs.declared.marks.LineMark.TheVariants.{Colon, Hash, Underscore}
 use Rattle.format_resp.specs.declared.marks.Mark.{Mark}
@@ -66,37 +62,28 @@ module _ {A : Type 0} (alike : Replies A → Replies A → Type 0) where
       (plain.plain w ys b) e d f h in
       (line_alike mark v w xs a (subst (LineSays Any mark w) (sym same) b), left)
 
-  bytes_alike : (mark : DataMark) (size : Option ℕ)
-      → Determined (AreAlikeBy alike) (DataBehind mark size)
-  unfolding First
-  bytes_alike mark (Some n) v w tokens rest other (front, (x, e, (fits, a)), d)
-      (back, (y, f, (also, b)), h) =
-      let (same, left) = data_determined n x y tokens rest other (front, a, d) (back, b, h) in
-      (alike_as v w e f same, left)
-  bytes_alike Dollar None v w tokens rest other (front, (e, a), d) (back, (f, b), h) =
-      (alike_as v w e f tt, nothing_left a b d h)
-  bytes_alike mark None v w tokens rest other (front, never, d) b = absurd never
-
 module _ {A : Type 0} (alike : Replies A → Replies A → Type 0)
     (elements : Text ℕ (List (Replies A))) (pairs : Pairs alike elements) where
-  aggregate_alike : (mark : AggregateMark) (size : Option ℕ)
-      → Determined (AreAlikeBy alike) (AggregateBehind elements mark size)
+  after_alike : (mark : Mark) (size : Option ℕ)
+      → Determined (AreAlikeBy alike) (AfterSize elements mark size)
   unfolding First
-  aggregate_alike mark (Some n) v w tokens rest other (front, (l, e, (many, a)), d)
+  after_alike mark None v w tokens rest other (front, (null, (e, a)), d)
+      (back, (also, (f, b)), h) = (alike_as alike v w e f tt, nothing_left a b d h)
+  after_alike (Line mark) (Some n) v w tokens rest other (front, never, d) b = absurd never
+  after_alike (Data mark) (Some n) v w tokens rest other (front, (x, e, (fits, a)), d)
+      (back, (y, f, (also, b)), h) =
+      let (same, left) = data_determined n x y tokens rest other (front, a, d) (back, b, h) in
+      (alike_as alike v w e f same, left)
+  after_alike (Aggregate mark) (Some n) v w tokens rest other (front, (l, e, (many, a)), d)
       (back, (m, f, (also, b)), h) =
       let (are, left) =
       pairs l.items m.items front back rest other a b (sym d ∙ h) (many ∙ sym also) in
       (alike_as alike v w e f are, left)
-  aggregate_alike Star None v w tokens rest other (front, (e, a), d) (back, (f, b), h) =
-      (alike_as alike v w e f tt, nothing_left a b d h)
-  aggregate_alike mark None v w tokens rest other (front, never, d) b = absurd never
 
   body_alike : (mark : Mark) → Determined (AreAlikeBy alike) (Body Any elements mark)
   body_alike (Line mark) = ended_alike alike mark
-  body_alike (Data mark) = led_determined SizeText (DataBehind mark) (AreAlikeBy alike) size_splits
-      (bytes_alike alike mark)
-  body_alike (Aggregate mark) = led_determined SizeText (AggregateBehind elements mark)
-      (AreAlikeBy alike) size_splits (aggregate_alike mark)
+  body_alike mark = led_determined SizeText (AfterSize elements mark) (AreAlikeBy alike) size_splits
+      (after_alike mark)
 
   marked_alike : (protocol : Protocol)
       → Determined (AreAlikeBy alike) (Led (MarkText protocol) (Body Any elements))

@@ -5,26 +5,13 @@ use Rattle.std.specs.Result.{is_ok}
 use Rattle.std.specs.declared.vec.Vec.{Vec}
 use Rattle.std.proofs.Common.{refl, sym, ap, subst, ◌∙◌, append_assoc, arith}
 use Rattle.streams.specs.Equal.{none_is_some, same_others, same_some}
-use Rattle.streams.specs.Following.{Following}
-use Rattle.streams.specs.Input.{Input, is_end_of_refl}
-use Rattle.streams.specs.Reading.{Reading}
 use Rattle.stream_errors.specs.Growth.{grown}
 use Rattle.grammars.specs.Grammar.Lengths.{same_beginnings}
-use Rattle.winnow_grammar.specs.InTurn.{First, MatchesEachCompletion, Led, Splits}
+use Rattle.winnow_grammar.specs.InTurn.{First, Led, Splits}
 use Rattle.grammars.specs.Texts.{CountedText, EachText, Text}
 use Rattle.format_resp.specs.Resp.{DataText, Ended, line_end, Shown}
 use Rattle.std.specs.Borrow.{Bor}
 use Rattle.grammars.specs.Pairwise.{ArePairwise}
-
--- where a value is made of nothing
-pub alone_stood : {T L R : Type 0} {reading : Reading T L} {following : Following T} {i : Input T}
-    (P : R → Type 0) (value : R) → P value
-    → MatchesEachCompletion reading following (First (λ r xs. P r × (xs ≡ []))) i value i
-unfolding First
-alone_stood {reading = reading} {i = i} P value is = record {
-  ends = is_end_of_refl reading i;
-  stands = λ more c. ([], (is, refl), refl);
-}
 
 -- ---- lists
 

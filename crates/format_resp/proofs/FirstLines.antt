@@ -1,9 +1,9 @@
 -- Uniqueness of the first line of a reply, and its relation to lines.
-use Rattle.std.specs.Prelude.{◌≡◌, ◌≤◌, ◌^◌, ℕ, List, [], ◌∷◌, ◌++◌, length, take, drop}
-use Rattle.std.specs.Prelude.{None, Some}
+use Rattle.std.specs.Prelude.{◌≡◌, ◌≤◌, ◌^◌, ℕ, List, [], ◌∷◌, ◌++◌, length, take, drop, None, Some}
+use Rattle.std.specs.Prelude.{Option}
 use Rattle.std.specs.List.{AllByRecursion}
 use Rattle.std.proofs.Common.{refl, sym, inl, ap, arith, subst, ◌∙◌, append_assoc}
-use Rattle.streams.specs.Equal.{none_is_some, same_first, same_others, same_some}
+use Rattle.streams.specs.Equal.{none_is_some, same_first, same_others}
 use Rattle.winnow_grammar.specs.InTurn.{First, Led, Splits}
 use Rattle.grammars.specs.Texts.{Text}
 use Rattle.format_resp.proofs.LineEnds.{IsPlain, ended_splits, open_endless, return_ends, until_end}
@@ -11,21 +11,22 @@ use Rattle.format_resp.proofs.Encodings.{led_determined}
 use Rattle.format_resp.proofs.FirstBytes.{mark_splits, one_mark}
 use Rattle.format_resp.proofs.LineTexts.{line_plain, one_size, size_plain}
 use Rattle.format_resp.specs.Heads.{HasNumber, HasNumberLine, HeadText, IsLinePrefix, IsNoLine}
-use Rattle.format_resp.specs.Heads.{IsReason, IsRejectedLine, IsSmall, IsWhy, Says, head_after}
+use Rattle.format_resp.specs.Heads.{IsReason, IsRejectedLine, IsSmall, IsWhy, Says, IsAfter}
 use Rattle.format_resp.specs.Lines.{EndsLine, IsOpen}
 use Rattle.format_resp.specs.Numbers.{AreDigits, SizeLine}
 use Rattle.format_resp.specs.Resp.{Ended, InLine, IsIn, MarkText, byte_of, line_end, many}
+use Rattle.format_resp.specs.Resp.{IsNullable}
 use Rattle.format_resp.specs.declared.extent.Reason.{Reason}
 use Rattle.format_resp.specs.declared.extent.Reason.TheVariants.{Malformed, TooDeep, TooLarge}
 use Rattle.format_resp.specs.declared.heads.Head.{Head}
 use Rattle.format_resp.specs.declared.marks.AggregateMark.{AggregateMark}
 use Rattle.format_resp.specs.declared.marks.AggregateMark.TheVariants.{Star}
-use Rattle.format_resp.specs.declared.marks.DataMark.{DataMark}
-use Rattle.format_resp.specs.declared.marks.DataMark.TheVariants.{Dollar}
 use Rattle.format_resp.specs.declared.marks.LineMark.{LineMark}
 use Rattle.format_resp.specs.declared.marks.LineMark.TheVariants.{Colon}
 use Rattle.format_resp.specs.declared.marks.Mark.{Mark}
 use Rattle.format_resp.specs.declared.marks.Mark.TheVariants.{Aggregate, Data, Line}
+use Rattle.format_resp.specs.declared.marks.DataMark.{DataMark}
+use Rattle.format_resp.specs.declared.marks.DataMark.TheVariants.{Dollar}
 use Rattle.format_resp.specs.declared.reply.Protocol.{Protocol}
 
 -- ---- texts at the start of the same tokens
@@ -45,13 +46,21 @@ says_all mark head line says =
 says_plain : (mark : Mark) → IsPlain (Says mark)
 says_plain mark = record { plain = says_all mark }
 
+after_one : (mark : Mark) (size : Option ℕ) (head other : Head) → IsAfter mark size head
+    → IsAfter mark size other → head ≡ other
+after_one mark None head other (null, is) (also, are) = sym is ∙ are
+after_one (Line mark) (Some n) head other never are = absurd never
+after_one (Data mark) (Some n) head other is are = sym is ∙ are
+after_one (Aggregate mark) (Some n) head other is are = sym is ∙ are
+
 says_one : (mark : Mark) (head other : Head) (line : List ℕ) → Says mark head line
     → Says mark other line → head ≡ other
 says_one (Line mark) head other line (is, a) (are, b) = is ∙ sym are
 says_one mark head other line says also =
     let (m, a, is, small) = says in
     let (n, b, are, less) = also in
-    same_some (sym is ∙ ap (head_after mark) (one_size m n line a b) ∙ are)
+    let P : Option ℕ → Type 0 = λ k. IsAfter mark k other in
+    after_one mark m head other is (subst P (sym (one_size m n line a b)) are)
 
 -- ---- lines that are rejected
 
@@ -66,38 +75,36 @@ null_number line e (all, some) =
     let P : List ℕ → Type 0 = λ l. AreDigits l in
     let a = subst P e (all, some) in omega (arith, a.0.0.0)
 
--- it is that of a bulk string and of an array only
-pub no_null_data : (mark : DataMark) (line : List ℕ) → line ≡ 45 ∷ 49 ∷ [] → (mark ≡ Dollar → ⊥)
-    → IsRejectedLine (Data mark) line Malformed
-no_null_data mark line e other = (
-  λ head (size, a, is, few). none_is_some (sym (none mark other)
-      ∙ ap (head_after (Data mark)) (sym (one_size size None line a e)) ∙ is),
-  null_number line e,
-)
-  where
-    none : (mark : DataMark) → (mark ≡ Dollar → ⊥) → head_after (Data mark) None ≡ None
-    none Dollar other = absurd (other refl)
-    none mark other = refl
+pub only_dollar : (mark : DataMark) → (mark ≡ Dollar → ⊥) → IsNullable (Data mark) → ⊥
+only_dollar Dollar other null = other refl
+only_dollar mark other never = never
 
-pub no_null_aggregate : (mark : AggregateMark) (line : List ℕ) → line ≡ 45 ∷ 49 ∷ []
-    → (mark ≡ Star → ⊥) → IsRejectedLine (Aggregate mark) line Malformed
-no_null_aggregate mark line e other = (
-  λ head (size, a, is, few). none_is_some (sym (none mark other)
-      ∙ ap (head_after (Aggregate mark)) (sym (one_size size None line a e)) ∙ is),
+pub only_star : (mark : AggregateMark) → (mark ≡ Star → ⊥) → IsNullable (Aggregate mark) → ⊥
+only_star Star other null = other refl
+only_star mark other never = never
+
+null_rejected : (mark : Mark) (size : Option ℕ) (line : List ℕ) (head : Head)
+    → line ≡ 45 ∷ 49 ∷ [] → (IsNullable mark → ⊥) → SizeLine size line → IsAfter mark size head → ⊥
+null_rejected mark None line head e other a (null, is) = other null
+null_rejected mark (Some n) line head e other a is = none_is_some (one_size None (Some n) line e a)
+
+-- it is that of a bulk string and of an array only
+pub no_null : (mark : Mark) (line : List ℕ) → ((of : LineMark) → mark ≡ Line of → ⊥)
+    → line ≡ 45 ∷ 49 ∷ [] → (IsNullable mark → ⊥) → IsRejectedLine mark line Malformed
+no_null (Line mark) line sized e other = absurd (sized mark refl)
+no_null mark line sized e other = (
+  λ head says.
+      let (size, a, is, few) = says in null_rejected mark size line head e other a is,
   null_number line e,
 )
-  where
-    none : (mark : AggregateMark) → (mark ≡ Star → ⊥) → head_after (Aggregate mark) None ≡ None
-    none Star other = absurd (other refl)
-    none mark other = refl
 
 -- an aggregate of too many replies
 pub too_many : (mark : AggregateMark) (n : ℕ) (line : List ℕ) → SizeLine (Some n) line
     → 2 ^ 63 ≤ many mark n → IsRejectedLine (Aggregate mark) line TooLarge
 too_many mark n line (digits, small) large = (
   λ head (size, a, is, few).
-      let same = same_some (ap (head_after (Aggregate mark))
-      (sym (one_size size (Some n) line a (digits, small))) ∙ is) in
+      let P : Option ℕ → Type 0 = λ k. IsAfter (Aggregate mark) k head in
+      let same = subst P (one_size size (Some n) line a (digits, small)) is in
       omega (arith, subst IsSmall (sym same) few, large),
   digits.0,
 )

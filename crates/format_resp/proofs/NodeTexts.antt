@@ -4,18 +4,17 @@ use Rattle.std.specs.Prelude.{None, Option, Some}
 use Rattle.std.specs.Borrow.{Bor}
 use Rattle.std.proofs.Common.{◌∙◌, ap, append_assoc, arith, length-append, refl, subst, sym}
 use Rattle.std.proofs.lemmas.List.{append-nil}
-use Rattle.streams.specs.Equal.{none_is_some, same_first, same_others, same_some}
+use Rattle.streams.specs.Equal.{same_first, same_others}
 use Rattle.winnow_grammar.specs.InTurn.{First, Led}
 use Rattle.format_resp.proofs.FirstBytes.{one_mark}
 use Rattle.format_resp.proofs.FirstLines.{LineAt, line_at}
-use Rattle.format_resp.proofs.Made.{integer_is, null_array_is, null_bulk_is}
-use Rattle.format_resp.specs.Heads.{HeadText, Says, head_after}
-use Rattle.format_resp.specs.Nodes.{IsNode, bytes_node, kind_by, number_node}
+use Rattle.format_resp.proofs.Made.{shaped, null_is}
+use Rattle.format_resp.specs.Heads.{HeadText, Says, IsAfter}
+use Rattle.format_resp.specs.Nodes.{IsNode, bytes_node, kind_by, number_node, null_kind}
 use Rattle.format_resp.specs.Numbers.{SignedText, SizeLine}
-use Rattle.format_resp.specs.Resp.{AggregateBehind, Any, Body, Bytes, Content}
-use Rattle.format_resp.specs.Resp.{DataBehind, Elements, Ended, IsIn, LineSays, MarkText, Nothing}
-use Rattle.format_resp.specs.Resp.{Number, Replies, ReplyText, Shown, SizeText, byte_of}
-use Rattle.format_resp.specs.Resp.{line_end, shape, shape_of}
+use Rattle.format_resp.specs.Resp.{Any, Body, Bytes, Content, Elements, Ended, IsIn, LineSays}
+use Rattle.format_resp.specs.Resp.{MarkText, Nothing, Number, Replies, ReplyText, Shown, SizeText}
+use Rattle.format_resp.specs.Resp.{byte_of, line_end, shape_of, AfterSize, IsNullable}
 use Rattle.format_resp.specs.Writing.{IsLineNode, IsSingleNode}
 use Rattle.format_resp.specs.declared.heads.Head.{Head}
 use Rattle.format_resp.specs.declared.heads.Head.TheVariants as heads
@@ -24,22 +23,22 @@ use Rattle.format_resp.specs.declared.marks.AggregateMark.TheVariants.{Star}
 use Rattle.format_resp.specs.declared.marks.DataMark.{DataMark}
 use Rattle.format_resp.specs.declared.marks.DataMark.TheVariants.{Dollar}
 use Rattle.format_resp.specs.declared.marks.LineMark.{LineMark}
-use Rattle.format_resp.specs.declared.marks.LineMark.TheVariants.{Colon, Hash}
-use Rattle.format_resp.specs.declared.marks.LineMark.TheVariants.{Underscore}
+use Rattle.format_resp.specs.declared.marks.LineMark.TheVariants.{Colon, Hash, Underscore}
 use Rattle.format_resp.specs.declared.marks.Mark.{Mark}
 use Rattle.format_resp.specs.declared.marks.Mark.TheVariants.{Aggregate, Data, Line}
 use Rattle.format_resp.specs.declared.node.RespNode.{RespNode}
 use Rattle.format_resp.specs.declared.reply.Protocol.{Protocol}
 use Rattle.format_resp.specs.declared.reply.Reply as made
+use Rattle.format_resp.specs.declared.reply.Reply.TheViews.{rolls-Integer}
 
--- what the line of a size is followed by, without a reply of one line
-abbrev pub is_data : Head → Type 0
-is_data (heads.Data bulk) = ⊤
-is_data head = ⊥
+pub bulk_kind : (mark : DataMark) → IsNullable (Data mark) → 4 ≡ null_kind (Data mark)
+bulk_kind Dollar null = refl
+bulk_kind mark never = absurd never
 
-abbrev pub is_list : Head → Type 0
-is_list (heads.Replies n) = ⊤
-is_list head = ⊥
+pub array_kind : (mark : AggregateMark) → IsNullable (Aggregate mark)
+    → 6 ≡ null_kind (Aggregate mark)
+array_kind Star null = refl
+array_kind mark never = absurd never
 
 -- a node of a reply of such contents
 shaped_node : (mark : Mark) (content : Content ⊤) (reply : Replies ⊤) (from index : ℕ)
@@ -59,22 +58,15 @@ module _ (protocol : Protocol) where
       (mark, byte_of mark ∷ [], body, (within, refl), is, refl)
 
   -- the same for a size, and what follows it
-  pub sized_data : {A : Type 0} (level : ℕ) (mark : DataMark) (size : Option ℕ) (reply : Replies A)
-      (line behind : List ℕ) → IsIn protocol (Data mark) → SizeLine size line
-      → DataBehind mark size reply behind
-      → ReplyText protocol level reply (byte_of (Data mark) ∷ ((line ++ line_end) ++ behind))
+  pub sized_text : {A : Type 0} (level : ℕ) (mark : Mark) (size : Option ℕ) (reply : Replies A)
+      (line behind : List ℕ) → IsIn protocol mark → SizeLine size line
+      → AfterSize (Elements protocol level) mark size reply behind
+      → ReplyText protocol level reply (byte_of mark ∷ ((line ++ line_end) ++ behind))
   unfolding Led SizeText Ended
-  sized_data level mark size reply line behind within is follows =
-      text_by level (Data mark) reply ((line ++ line_end) ++ behind) within
-      (size, line ++ line_end, behind, (line, is, refl), follows, refl)
-
-  pub sized_list : {A : Type 0} (level : ℕ) (mark : AggregateMark) (size : Option ℕ)
-      (reply : Replies A) (line behind : List ℕ) → IsIn protocol (Aggregate mark)
-      → SizeLine size line → AggregateBehind (Elements protocol level) mark size reply behind
-      → ReplyText protocol level reply (byte_of (Aggregate mark) ∷ ((line ++ line_end) ++ behind))
-  unfolding Led SizeText Ended
-  sized_list level mark size reply line behind within is follows =
-      text_by level (Aggregate mark) reply ((line ++ line_end) ++ behind) within
+  sized_text level (Line mark) None reply line behind within is (never, nothing) = absurd never
+  sized_text level (Line mark) (Some n) reply line behind within is never = absurd never
+  sized_text level mark size reply line behind within is follows =
+      text_by level mark reply ((line ++ line_end) ++ behind) within
       (size, line ++ line_end, behind, (line, is, refl), follows, refl)
 
   line_text : {A : Type 0} (level : ℕ) (mark : LineMark) (reply : Replies A) (line : List ℕ)
@@ -84,39 +76,25 @@ module _ (protocol : Protocol) where
   line_text level mark reply line within says =
       text_by level (Line mark) reply (line ++ line_end) within (line, says, refl)
 
-  -- ---- replies that end with their first line
-
-  null_data : (mark : DataMark) (size : Option ℕ) (line : List ℕ) → IsIn protocol (Data mark)
-      → SizeLine size line → head_after (Data mark) size ≡ Some heads.Ends
-      → (reply : Replies ⊤) × (shape_of reply ≡ (Data Dollar, Nothing))
-      × ((level : ℕ) → ReplyText protocol level reply (byte_of (Data mark) ∷ (line ++ line_end)))
-  null_data mark (Some n) line within is e = absurd (subst is_data (same_some e) tt)
-  null_data Dollar None line within is e = (
-    made.NullBulk,
-    ap shape null_bulk_is,
-    λ level. subst (λ l. ReplyText {A = ⊤} protocol level made.NullBulk (36 ∷ l))
-        (append-nil (line ++ line_end))
-        (sized_data level Dollar None made.NullBulk line [] within is
-        (ap shape null_bulk_is, refl)),
-  )
-  null_data mark None line within is e = none_is_some e
-
-  null_list : (mark : AggregateMark) (size : Option ℕ) (line : List ℕ)
-      → IsIn protocol (Aggregate mark) → SizeLine size line
-      → head_after (Aggregate mark) size ≡ Some heads.Ends
-      → (reply : Replies ⊤) × (shape_of reply ≡ (Aggregate Star, Nothing))
-      × ((level : ℕ)
-      → ReplyText protocol level reply (byte_of (Aggregate mark) ∷ (line ++ line_end)))
-  null_list mark (Some n) line within is e = absurd (subst is_list (same_some e) tt)
-  null_list Star None line within is e = (
-    made.NullArray,
-    ap shape null_array_is,
-    λ level. subst (λ l. ReplyText {A = ⊤} protocol level made.NullArray (42 ∷ l))
-        (append-nil (line ++ line_end))
-        (sized_list level Star None made.NullArray line [] within is
-        (ap shape null_array_is, refl)),
-  )
-  null_list mark None line within is e = none_is_some e
+  -- a reply with a size that ends with its first line is null
+  null_reply : (mark : Mark) (size : Option ℕ) (line : List ℕ) → IsIn protocol mark
+      → SizeLine size line → IsAfter mark size heads.Ends
+      → IsNullable mark × ((reply : Replies ⊤) × (shape_of reply ≡ (mark, Nothing))
+      × ((level : ℕ) → ReplyText protocol level reply (byte_of mark ∷ (line ++ line_end))))
+  null_reply mark None line within is (null, e) =
+      let (reply, shape_is) = null_is mark null in (
+        null,
+        (
+          reply,
+          shape_is,
+          λ level. subst (λ l. ReplyText {A = ⊤} protocol level reply (byte_of mark ∷ l))
+              (append-nil (line ++ line_end))
+              (sized_text level mark None reply line [] within is (null, (shape_is, refl))),
+        ),
+      )
+  null_reply (Line mark) (Some n) line within is never = absurd never
+  null_reply (Data mark) (Some n) line within is e = absurd cc
+  null_reply (Aggregate mark) (Some n) line within is e = absurd cc
 
   module _ (size index : ℕ) (bytes rest : List ℕ) (node : RespNode) where
     -- that of a reply of this text
@@ -137,29 +115,19 @@ module _ (protocol : Protocol) where
           is_node = node_is;
         }
 
-    pub ended_data : (mark : DataMark) → node ≡ number_node 4 (pos 0) (index + 1)
-        → (at : LineAt protocol bytes heads.Ends rest) → at.mark ≡ Data mark
+    pub ended_null : (mark : Mark) → ((of : LineMark) → mark ≡ Line of → ⊥)
+        → (IsNullable mark → node ≡ number_node (null_kind mark) (pos 0) (index + 1))
+        → (at : LineAt protocol bytes heads.Ends rest) → at.mark ≡ mark
         → IsSingleNode protocol size index bytes rest node
-    ended_data mark e at is =
+    ended_null (Line mark) sized node_is at is = absurd (sized mark refl)
+    ended_null mark sized node_is at is =
         let P : Mark → Type 0 = λ m. Says m heads.Ends at.line in
-        let (given, sizes, heads_are, small) = subst P is at.says in
-        let (reply, shape_is, texts) =
-        null_data mark given at.line (subst (IsIn protocol) is at.within) sizes heads_are in
-        ended_by (Data mark) reply at is texts
-        (shaped_node (Data Dollar) Nothing reply (size - length bytes) index
-        (byte_of (Data mark) ∷ (at.line ++ line_end)) node shape_is e)
-
-    pub ended_list : (mark : AggregateMark) → node ≡ number_node 6 (pos 0) (index + 1)
-        → (at : LineAt protocol bytes heads.Ends rest) → at.mark ≡ Aggregate mark
-        → IsSingleNode protocol size index bytes rest node
-    ended_list mark e at is =
-        let P : Mark → Type 0 = λ m. Says m heads.Ends at.line in
-        let (given, sizes, heads_are, small) = subst P is at.says in
-        let (reply, shape_is, texts) =
-        null_list mark given at.line (subst (IsIn protocol) is at.within) sizes heads_are in
-        ended_by (Aggregate mark) reply at is texts
-        (shaped_node (Aggregate Star) Nothing reply (size - length bytes) index
-        (byte_of (Aggregate mark) ∷ (at.line ++ line_end)) node shape_is e)
+        let (given, sizes, after, small) = subst P is at.says in
+        let (null, (reply, shape_is, texts)) =
+        null_reply mark given at.line (subst (IsIn protocol) is at.within) sizes after in
+        ended_by mark reply at is texts
+        (shaped_node mark Nothing reply (size - length bytes) index
+        (byte_of mark ∷ (at.line ++ line_end)) node shape_is (node_is null))
 
     pub ended_line : (mark : LineMark) (start : ℕ) → start + length bytes ≡ size + 1
         → length bytes ≤ size → (at : LineAt protocol bytes heads.Ends rest) → at.mark ≡ Line mark
@@ -181,7 +149,7 @@ module _ (line : List ℕ) (start index : ℕ) (node : RespNode) where
   pub number_line : (n m : ℤ) → SignedText n line → m ≡ n → node ≡ number_node 2 m (index + 1)
       → IsLineNode Colon line start index node
   number_line n m is same e =
-      let shape_is = ap shape (integer_is n) in (
+      let shape_is = shaped _ refl (rolls-Integer n) in (
         made.Integer n,
         (n, shape_is, is),
         λ from text long.

@@ -1,37 +1,32 @@
 -- Lemmas about the nodes of strings and aggregates, and about nodes in the buffer.
 use Rattle.std.specs.Prelude.{◌≡◌, ◌≤◌, ◌<◌, ◌+◌, ◌-◌, ◌^◌, ◌∷◌, ◌++◌, [], ⊤, ℕ, List}
-use Rattle.std.specs.Prelude.{length}
-use Rattle.std.specs.Prelude.{None, Option, Some, drop, set, suc, take, zero}
+use Rattle.std.specs.Prelude.{length, None, Some, drop, set, suc, take, zero}
 use Rattle.std.specs.Borrow.{Bor}
 use Rattle.std.proofs.Common.{◌∙◌, ap, append_assoc, arith, length-append, refl, subst, sym}
-use Rattle.streams.specs.Equal.{none_is_some, same_some}
 use Rattle.winnow_grammar.specs.InTurn.{First, Led}
 use Rattle.grammars.specs.Texts.{CountedText, EachText}
 use Rattle.format_resp.proofs.FirstLines.{line_at, says_all, start_stands}
 use Rattle.format_resp.proofs.Made.{gathered_is, string_is}
 use Rattle.format_resp.proofs.NodeRows.{same_at}
-use Rattle.format_resp.proofs.NodeTexts.{is_data, is_list, sized_data, sized_list}
-use Rattle.format_resp.proofs.Overlay.{overlay_all, overlay_before, set_overlay}
+use Rattle.format_resp.proofs.NodeTexts.{sized_text}
 use Rattle.format_resp.proofs.WrittenTexts.{list_for}
 use Rattle.format_resp.specs.Heads.{HeadText, Says}
-use Rattle.format_resp.specs.Nodes.{ContentNodes, EachNodes, HasNodes, IsNode, NodesAt, NodesOf}
-use Rattle.format_resp.specs.Nodes.{bytes_node, kind_by}
+use Rattle.format_resp.specs.Nodes.{ContentNodes, EachNodes, HasNodes, IsNode, NodesOf, bytes_node}
+use Rattle.format_resp.specs.Nodes.{kind_by, NodesAt}
 use Rattle.format_resp.specs.Numbers.{SizeLine}
 use Rattle.format_resp.specs.Resp.{Bytes, Content, DataText, ElementsIn, Ended, Fits, IsIn, Items}
 use Rattle.format_resp.specs.Resp.{MarkText, Nothing, Number, Replies, ReplyText, StringText, Truth}
 use Rattle.format_resp.specs.Resp.{byte_of, formatted, gathered, line_end, many, shape_of}
 use Rattle.format_resp.specs.Writing.{IsSingleNode, ReplyNodes, RowNodes, Writes, overlay}
 use Rattle.format_resp.specs.declared.extent.Bulk.{Bulk}
-use Rattle.format_resp.specs.declared.heads.Head.{Head}
 use Rattle.format_resp.specs.declared.heads.Head.TheVariants as heads
 use Rattle.format_resp.specs.declared.marks.AggregateMark.{AggregateMark}
-use Rattle.format_resp.specs.declared.marks.AggregateMark.TheVariants.{Star}
 use Rattle.format_resp.specs.declared.marks.DataMark.{DataMark}
-use Rattle.format_resp.specs.declared.marks.DataMark.TheVariants.{Dollar}
 use Rattle.format_resp.specs.declared.marks.Mark.{Mark}
 use Rattle.format_resp.specs.declared.marks.Mark.TheVariants.{Aggregate, Data, Line}
 use Rattle.format_resp.specs.declared.node.RespNode.{RespNode}
 use Rattle.format_resp.specs.declared.reply.Protocol.{Protocol}
+use Rattle.format_resp.proofs.Overlay.{overlay_all, overlay_before, set_overlay}
 
 -- the kind of the reply that such bytes start with
 abbrev pub IsKind : ℕ → List ℕ → Type 0
@@ -40,19 +35,9 @@ IsKind kind bytes = (mark : Mark) (text : List ℕ) → bytes ≡ byte_of mark �
 
 same_node : {kind k elements e end f next g : ℕ} (start : ℕ) → kind ≡ k → elements ≡ e → end ≡ f
     → next ≡ g → bytes_node kind elements start end next ≡ bytes_node k e start f g
-same_node {kind} {k} {elements} {e} {end} {f} {next} {g} start a b c d =
-    ap (λ n. bytes_node n elements start end next) a ∙ ap (λ n. bytes_node k n start end next) b
-    ∙ ap (λ n. bytes_node k e start n next) c ∙ ap (λ n. bytes_node k e start f n) d
+same_node start a b c d = cc
 
 -- ---- the marks of strings and of aggregates
-
-abbrev bulk_in : Head → Option Bulk
-bulk_in (heads.Data bulk) = Some bulk
-bulk_in head = None
-
-abbrev count_in : Head → ℕ
-count_in (heads.Replies n) = n
-count_in head = 0
 
 -- a first line that a string follows
 pub record StringLine (mark : Mark) (line : List ℕ) (bulk : Bulk) : Type 0 where
@@ -63,22 +48,18 @@ pub record StringLine (mark : Mark) (line : List ℕ) (bulk : Bulk) : Type 0 whe
 
 string_line : (mark : Mark) (line : List ℕ) (bulk : Bulk) → Says mark (heads.Data bulk) line
     → StringLine mark line bulk
-string_line (Line mark) line bulk (same, other) = absurd (subst is_data same tt)
+string_line (Line mark) line bulk (same, other) = absurd cc
 string_line (Data mark) line bulk (Some n, a, is, small) =
-    let same = same_some (ap bulk_in (same_some is)) in record {
+    let string : Bulk = record { size = n; verbatim = formatted mark } in
+    let same : string ≡ bulk = cc in record {
       kind = mark;
       is = refl;
       sizes = subst (λ (b : Bulk). SizeLine (Some b.size) line) same a;
       format = ap (λ (b : Bulk). b.verbatim) same;
     }
-string_line (Data Dollar) line bulk (None, a, is, small) =
-    absurd (subst is_data (sym (same_some is)) tt)
-string_line (Data mark) line bulk (None, a, is, small) = none_is_some is
-string_line (Aggregate mark) line bulk (Some n, a, is, small) =
-    absurd (subst is_list (same_some is) tt)
-string_line (Aggregate Star) line bulk (None, a, is, small) =
-    absurd (subst is_data (sym (same_some is)) tt)
-string_line (Aggregate mark) line bulk (None, a, is, small) = none_is_some is
+string_line (Data mark) line bulk (None, a, (null, is), small) = absurd cc
+string_line (Aggregate mark) line bulk (Some n, a, is, small) = absurd cc
+string_line (Aggregate mark) line bulk (None, a, (null, is), small) = absurd cc
 
 -- a first line that replies follow
 pub record ListLine (mark : Mark) (line : List ℕ) (count : ℕ) : Type 0 where
@@ -90,16 +71,12 @@ pub record ListLine (mark : Mark) (line : List ℕ) (count : ℕ) : Type 0 where
 
 list_line : (mark : Mark) (line : List ℕ) (count : ℕ) → Says mark (heads.Replies count) line
     → ListLine mark line count
-list_line (Line mark) line count (same, other) = absurd (subst is_list same tt)
-list_line (Data mark) line count (Some n, a, is, small) = absurd (subst is_data (same_some is) tt)
-list_line (Data Dollar) line count (None, a, is, small) =
-    absurd (subst is_list (sym (same_some is)) tt)
-list_line (Data mark) line count (None, a, is, small) = none_is_some is
+list_line (Line mark) line count (same, other) = absurd cc
+list_line (Data mark) line count (Some n, a, is, small) = absurd cc
+list_line (Data mark) line count (None, a, (null, is), small) = absurd cc
 list_line (Aggregate mark) line count (Some n, a, is, small) =
-    record { kind = mark; size = n; is = refl; sizes = a; counts = ap count_in (same_some is) }
-list_line (Aggregate Star) line count (None, a, is, small) =
-    absurd (subst is_list (sym (same_some is)) tt)
-list_line (Aggregate mark) line count (None, a, is, small) = none_is_some is
+    record { kind = mark; size = n; is = refl; sizes = a; counts = cc }
+list_line (Aggregate mark) line count (None, a, (null, is), small) = absurd cc
 
 -- ---- replies without elements
 
@@ -153,8 +130,8 @@ module _ (protocol : Protocol) where
       let Q : Mark × Content ⊤ → Type 0 = λ s. IsNode s.0 s.1 from index text node in record {
         reply = reply;
         text = text;
-        is_reply = λ level. sized_data protocol level mark (Some bulk.size) reply at.line more
-            (subst (IsIn protocol) by.is at.within) by.sizes
+        is_reply = λ level. sized_text protocol level (Data mark) (Some bulk.size) reply at.line
+            more (subst (IsIn protocol) by.is at.within) by.sizes
             (string, shape_is, (subst (λ b. Fits b string.now) (sym by.format) fits, text_is));
         splits = joins;
         is_node = subst Q (sym shape_is) (
@@ -279,8 +256,9 @@ module _ (protocol : Protocol) where
       text in (
         reply,
         (
-          subst T (sym e) (sized_list protocol (suc inner) mark (Some size) reply line elements
-              within sizes (list, shape_is, (items ∙ sym counts, subst P (sym same) each))),
+          subst T (sym e) (sized_text protocol (suc inner) (Aggregate mark) (Some size) reply line
+              elements within sizes
+              (list, shape_is, (items ∙ sym counts, subst P (sym same) each))),
           subst S (sym shape_is) (
             elements,
             others,

@@ -7,15 +7,12 @@ use Rattle.std.proofs.Common.{ap, arith, refl, subst, sym, ◌∙◌}
 use Rattle.winnow_grammar.specs.InTurn.{Led}
 use Rattle.grammars.specs.Texts.{CountedText, EachText, Text}
 use Rattle.format_resp.proofs.Refusals.{body_sound}
-use Rattle.format_resp.specs.Resp.{AggregateBehind, Body, BooleanText, Bytes, Content, DataBehind}
-use Rattle.format_resp.specs.Resp.{DataText, ElementsIn, Ended, Items, LineSays, MarkText}
-use Rattle.format_resp.specs.Resp.{Nothing, Number, Replies, Shortest, Shown, SizeIn, Truth}
-use Rattle.format_resp.specs.Resp.{WrittenText}
-use Rattle.format_resp.specs.Resp.{byte_of, line_end, many, shape_of}
+use Rattle.format_resp.specs.Resp.{Body, BooleanText, Bytes, Content, DataText, ElementsIn, Ended}
+use Rattle.format_resp.specs.Resp.{Items, LineSays, MarkText, Nothing, Number, Replies, Shortest}
+use Rattle.format_resp.specs.Resp.{Shown, SizeIn, Truth, WrittenText, byte_of, line_end, many}
+use Rattle.format_resp.specs.Resp.{shape_of, AfterSize, SizedText}
 use Rattle.format_resp.specs.declared.marks.AggregateMark.{AggregateMark}
-use Rattle.format_resp.specs.declared.marks.AggregateMark.TheVariants.{Bar, Percent, Star}
-use Rattle.format_resp.specs.declared.marks.DataMark.{DataMark}
-use Rattle.format_resp.specs.declared.marks.DataMark.TheVariants.{Dollar}
+use Rattle.format_resp.specs.declared.marks.AggregateMark.TheVariants.{Bar, Percent}
 use Rattle.format_resp.specs.declared.marks.LineMark.{LineMark}
 use Rattle.format_resp.specs.declared.marks.LineMark.TheVariants.{Colon, Hash, Underscore}
 use Rattle.format_resp.specs.declared.marks.Mark.{Mark}
@@ -86,10 +83,10 @@ many_only Percent m n e = omega (arith, e)
 many_only Bar m n e = omega (arith, e)
 many_only mark m n e = e
 
--- what follows a size, which is the same
-sized_only : (m n : Option ℕ) (a b xs ys : List ℕ) → m ≡ n → SizeIn Shortest m a
+-- the line of a size, which is the same, and what follows it
+lines_only : (m n : Option ℕ) (a b xs ys : List ℕ) → m ≡ n → SizeIn Shortest m a
     → SizeIn Shortest n b → xs ≡ ys → a ++ xs ≡ b ++ ys
-sized_only m n a b xs ys same s t e =
+lines_only m n a b xs ys same s t e =
     let P : Option ℕ → Type 0 = λ k. SizeIn Shortest k b in
     let one : a ≡ b = size_only m a b s (subst P (sym same) t) in
     ap (λ l. l ++ xs) one ∙ ap (λ l. b ++ l) e
@@ -109,47 +106,46 @@ module _ {A : Type 0} (elements : Text ℕ (List (Replies A))) (only : IsOnly el
       let (s, e, (these, a)) = here in
       let (t, f, (those, b)) = there in sym a ∙ same_in bytes_in reply e f ∙ b
 
-  bytes_only : (mark : DataMark) (m n : Option ℕ) (reply : Replies A) (xs ys : List ℕ)
-      → DataBehind mark m reply xs → DataBehind mark n reply ys → (m ≡ n) × (xs ≡ ys)
-  bytes_only mark (Some m) (Some n) reply xs ys (x, e, (fits, a)) (y, f, (also, b)) =
-      let (same, one) = data_only m n x y xs ys (same_in bytes_in reply e f) a b in
-      (ap (λ k. Some k) same, one)
-  bytes_only Dollar None None reply xs ys (e, a) (f, b) = (refl, a ∙ sym b)
-  bytes_only Dollar None (Some n) reply xs ys (e, a) (y, f, b) =
-      absurd (cc (same_in is_nothing reply e f))
-  bytes_only Dollar (Some m) None reply xs ys (x, e, a) (f, b) =
-      absurd (cc (same_in is_nothing reply e f))
-  bytes_only mark None n reply xs ys never b = absurd never
-  bytes_only mark (Some m) None reply xs ys a never = absurd never
+  -- a size is not of null if something follows it
+  some_only : (mark : Mark) (n : ℕ) (reply : Replies A) (xs : List ℕ)
+      → SizedText elements mark n reply xs → shape_of reply ≡ (mark, Nothing) → ⊥
+  some_only (Data mark) n reply xs (x, e, a) f = cc (same_in is_nothing reply e f)
+  some_only (Aggregate mark) n reply xs (x, e, a) f = cc (same_in is_nothing reply e f)
+  some_only (Line mark) n reply xs never f = never
 
-  items_only : (mark : AggregateMark) (m n : Option ℕ) (reply : Replies A) (xs ys : List ℕ)
-      → AggregateBehind elements mark m reply xs → AggregateBehind elements mark n reply ys
+  sized_only : (mark : Mark) (m n : ℕ) (reply : Replies A) (xs ys : List ℕ)
+      → SizedText elements mark m reply xs → SizedText elements mark n reply ys
       → (m ≡ n) × (xs ≡ ys)
-  items_only mark (Some m) (Some n) reply xs ys (x, e, (count, a)) (y, f, (number, b)) =
+  sized_only (Data mark) m n reply xs ys (x, e, (fits, a)) (y, f, (also, b)) =
+      data_only m n x y xs ys (same_in bytes_in reply e f) a b
+  sized_only (Aggregate mark) m n reply xs ys (x, e, (count, a)) (y, f, (number, b)) =
       let same : x.items ≡ y.items = same_in items_in reply e f in
       let P : List (Replies A) → Type 0 = λ l. elements l ys in (
-        ap (λ k. Some k) (many_only mark m n
-            (sym count ∙ ap (λ l. length l) same ∙ number)),
+        many_only mark m n (sym count ∙ ap (λ l. length l) same ∙ number),
         only x.items xs ys a (subst P (sym same) b),
       )
-  items_only Star None None reply xs ys (e, a) (f, b) = (refl, a ∙ sym b)
-  items_only Star None (Some n) reply xs ys (e, a) (y, f, b) =
-      absurd (cc (same_in is_nothing reply e f))
-  items_only Star (Some m) None reply xs ys (x, e, a) (f, b) =
-      absurd (cc (same_in is_nothing reply e f))
-  items_only mark None n reply xs ys never b = absurd never
-  items_only mark (Some m) None reply xs ys a never = absurd never
+  sized_only (Line mark) m n reply xs ys never b = absurd never
+
+  after_only : (mark : Mark) (m n : Option ℕ) (reply : Replies A) (xs ys : List ℕ)
+      → AfterSize elements mark m reply xs → AfterSize elements mark n reply ys
+      → (m ≡ n) × (xs ≡ ys)
+  after_only mark None None reply xs ys (null, (e, a)) (also, (f, b)) = (refl, a ∙ sym b)
+  after_only mark None (Some n) reply xs ys (null, (e, a)) b =
+      absurd (some_only mark n reply ys b e)
+  after_only mark (Some m) None reply xs ys a (null, (f, b)) =
+      absurd (some_only mark m reply xs a f)
+  after_only mark (Some m) (Some n) reply xs ys a b =
+      let (same, one) = sized_only mark m n reply xs ys a b in (ap (λ k. Some k) same, one)
 
   body_only : (mark : Mark) → IsOnly (Body Shortest elements mark)
   unfolding Led
   body_only (Line mark) reply xs ys here there =
       ended_only (LineSays Shortest mark) (line_only mark) reply xs ys here there
-  body_only (Data mark) reply xs ys (m, a, x, s, here, e) (n, b, y, t, there, f) =
-      let (same, one) = bytes_only mark m n reply x y here there in
-      e ∙ sized_only m n a b x y same s t one ∙ sym f
-  body_only (Aggregate mark) reply xs ys (m, a, x, s, here, e) (n, b, y, t, there, f) =
-      let (same, one) = items_only mark m n reply x y here there in
-      e ∙ sized_only m n a b x y same s t one ∙ sym f
+  body_only mark reply xs ys here there =
+      let (m, a, x, s, after, e) = here in
+      let (n, b, y, t, also, f) = there in
+      let (same, one) = after_only mark m n reply x y after also in
+      e ∙ lines_only m n a b x y same s t one ∙ sym f
 
   reply_only : (protocol : Protocol) → IsOnly (Led (MarkText protocol) (Body Shortest elements))
   unfolding Led MarkText

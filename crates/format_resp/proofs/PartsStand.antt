@@ -7,12 +7,10 @@ use Rattle.winnow_grammar.specs.InTurn.{First, Led}
 use Rattle.grammars.specs.Texts.{CountedText}
 use Rattle.format_resp.proofs.LineTexts.{size_plain}
 use Rattle.format_resp.specs.Parts.{HasElements, IsBehindFeed, IsLine, NoFeed, StandsAs, StandsBy}
-use Rattle.format_resp.specs.Resp.{AggregateBehind, Any, Body, Content, DataBehind, DataText}
-use Rattle.format_resp.specs.Resp.{Elements, ElementsIn, Ended, InLine, LineSays, MarkText, Opened}
-use Rattle.format_resp.specs.Resp.{Replies, ReplyText, Shown, SizeText, byte_of, line_end, shape_of}
-use Rattle.format_resp.specs.declared.marks.AggregateMark.{AggregateMark}
+use Rattle.format_resp.specs.Resp.{Any, Body, Content, DataText, Elements, ElementsIn, Ended}
+use Rattle.format_resp.specs.Resp.{InLine, LineSays, MarkText, Opened, Replies, ReplyText, Shown}
+use Rattle.format_resp.specs.Resp.{SizeText, byte_of, line_end, shape_of, AfterSize}
 use Rattle.format_resp.specs.declared.marks.AggregateMark.TheVariants.{Star}
-use Rattle.format_resp.specs.declared.marks.DataMark.{DataMark}
 use Rattle.format_resp.specs.declared.marks.DataMark.TheVariants.{Dollar}
 use Rattle.format_resp.specs.declared.marks.LineMark.{LineMark}
 use Rattle.format_resp.specs.declared.marks.LineMark.TheVariants.{Colon, Hash, Plus, Underscore}
@@ -92,22 +90,19 @@ module _ {A : Type 0} (protocol : Protocol) (level : ℕ) (input rest : List ℕ
   line_stands mark reply line says at =
       let (text, same, (all, shows)) = says in stands_made reply same (at text shows)
 
-  data_stands : (mark : DataMark) (reply : Replies A) (size : Option ℕ) (vs : List ℕ)
-      → DataBehind mark size reply vs → IsBehindFeed input (vs ++ rest)
+  after_stands : (mark : Mark) (reply : Replies A) (size : Option ℕ) (vs : List ℕ)
+      → AfterSize (Elements protocol level) mark size reply vs → IsBehindFeed input (vs ++ rest)
       → StandsAs protocol level input (shape_of reply) rest
   unfolding DataText Ended CountedText
-  data_stands mark reply (Some k) vs (text, same, (fits, (ds, (many, shows), d))) behind =
+  after_stands (Data mark) reply None vs (null, (same, none)) behind = stands_made reply same tt
+  after_stands (Data mark) reply (Some k) vs (text, same, (fits, (ds, (many, shows), d))) behind =
       stands_made reply same (bulk_ended ds rest d shows behind)
-  data_stands Dollar reply None vs (same, none) behind = stands_made reply same tt
-  data_stands mark reply None vs never behind = absurd never
-
-  aggregate_stands : (mark : AggregateMark) (reply : Replies A) (size : Option ℕ) (vs : List ℕ)
-      → AggregateBehind (Elements protocol level) mark size reply vs
-      → IsBehindFeed input (vs ++ rest) → StandsAs protocol level input (shape_of reply) rest
-  aggregate_stands mark reply (Some k) vs (list, same, (many, are)) behind =
+  after_stands (Aggregate mark) reply None vs (null, (same, none)) behind =
+      stands_made reply same tt
+  after_stands (Aggregate mark) reply (Some k) vs (list, same, (many, are)) behind =
       stands_made reply same (elements_row level list.items vs are behind)
-  aggregate_stands Star reply None vs (same, none) behind = stands_made reply same tt
-  aggregate_stands mark reply None vs never behind = absurd never
+  after_stands (Line mark) reply None vs (never, nothing) behind = absurd never
+  after_stands (Line mark) reply (Some k) vs never behind = absurd never
 
   body_stands : (mark : Mark) (reply : Replies A) (others : List ℕ)
       → Body Any (Elements protocol level) mark reply others
@@ -120,12 +115,10 @@ module _ {A : Type 0} (protocol : Protocol) (level : ℕ) (input rest : List ℕ
         f ∙ ap (λ l. byte_of (Line mark) ∷ l) (ended xs rest e
             ∙ ap (λ l. l ++ (line_end ++ rest)) (sym shows)),
       ))
-  body_stands (Data mark) reply others (size, us, vs, (xs, is, e), b, d) f =
-      data_stands mark reply size vs b
-      (behind_size xs vs rest (no_feed (Data mark)) (size_plain.plain size xs is) e d f)
-  body_stands (Aggregate mark) reply others (size, us, vs, (xs, is, e), b, d) f =
-      aggregate_stands mark reply size vs b
-      (behind_size xs vs rest (no_feed (Aggregate mark)) (size_plain.plain size xs is) e d f)
+  body_stands mark reply others body f =
+      let (size, us, vs, (xs, is, e), b, d) = body in
+      after_stands mark reply size vs b
+      (behind_size xs vs rest (no_feed mark) (size_plain.plain size xs is) e d f)
 
   parts_stand : (reply : Replies A) → First (ReplyText protocol level) input reply rest
       → StandsAs protocol level input (shape_of reply) rest

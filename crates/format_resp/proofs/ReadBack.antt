@@ -7,11 +7,11 @@ use Rattle.std.proofs.Common.{refl, sym, ap, subst, ◌∙◌, arith, length-app
 use Rattle.winnow_grammar.specs.InTurn.{First}
 use Rattle.grammars.specs.Texts.{EachText, Text}
 use Rattle.format_resp.proofs.AlikeReplies.{replies_alike}
-use Rattle.format_resp.proofs.Made.{array_is, bulk_is, mark_is}
+use Rattle.format_resp.proofs.Made.{mark_is, shaped}
 use Rattle.format_resp.proofs.WrittenTexts.{aggregate_text, data_text, list_for, written_text}
 use Rattle.format_resp.specs.Alike.{AreAlike, AreAlikeBy, HoldAlike, IsCommand}
 use Rattle.format_resp.specs.Resp.{Bytes, Content, ElementsIn, IsIn, Items, Replies, ReplyText}
-use Rattle.format_resp.specs.Resp.{WrittenText, first_mark, line_end, shape, shape_of}
+use Rattle.format_resp.specs.Resp.{WrittenText, first_mark, line_end, shape_of}
 use Rattle.format_resp.specs.Written.{Adds, bulk_of, bulks_of, command_of, marked}
 use Rattle.format_resp.specs.declared.marks.AggregateMark.TheVariants.{Star}
 use Rattle.format_resp.specs.declared.marks.DataMark.TheVariants.{Dollar}
@@ -20,6 +20,7 @@ use Rattle.format_resp.specs.declared.marks.Mark.TheVariants.{Aggregate, Data}
 use Rattle.format_resp.specs.declared.reply.Protocol.{Protocol}
 use Rattle.format_resp.specs.declared.reply.Protocol.TheVariants.{Resp2}
 use Rattle.format_resp.specs.declared.reply.Reply as made
+use Rattle.format_resp.specs.declared.reply.Reply.TheViews.{rolls-Array, rolls-Bulk}
 use Rattle.grammars.specs.Pairwise.{ArePairwise}
 
 module _ {A : Type 0} (protocol : Protocol) (level : ℕ) where
@@ -90,7 +91,7 @@ bulks_row A [] small = refl
 bulks_row A (part ∷ parts) small =
     let long = length-append (bulk_of part.now) (bulks_of parts) in
     let bulk : Replies A = made.Bulk part in
-    let is : shape_of bulk ≡ (Data Dollar, Bytes part) = ap shape (bulk_is part) in (
+    let is : shape_of bulk ≡ (Data Dollar, Bytes part) = shaped _ refl (rolls-Bulk part) in (
       bulk_of part.now,
       bulks_of parts,
       data_text Resp2 0 bulk Dollar part is tt (omega (arith, small, long, longer part.now))
@@ -106,7 +107,7 @@ unfolding ElementsIn
 command_text {A} parts list are small =
     let many : length list.items ≡ length parts = ap (λ l. length l) are ∙ as_many A parts in
     let is : shape_of (made.Array list) ≡ (Aggregate Star, Items list) =
-    ap shape (array_is list) in
+    shaped _ refl (rolls-Array list) in
     written_text Resp2 1 (made.Array list) (command_of parts)
     (aggregate_text Resp2 1 (made.Array list) Star (length parts) list (bulks_of parts) is many
     (rw are (bulks_row A parts small)) (subst (IsIn Resp2) (sym (mark_is _ is)) tt))
@@ -172,7 +173,8 @@ module _ {A : Type 0} where
   bulks_back [] (r ∷ rs) never = never
   bulks_back (p ∷ ps) [] never = never
   bulks_back (p ∷ ps) (r ∷ rs) (one, more) =
-      let (same, held) = shaped_alike (λ v w. ⊥) (made.Bulk p) r (ap shape (bulk_is p)) one in
+      let is = shaped _ refl (rolls-Bulk p) in
+      let (same, held) = shaped_alike (λ v w. ⊥) (made.Bulk p) r is one in
       (bulk_held (λ v w. ⊥) p (shape_of r) same held, bulks_back ps rs more)
 
   -- what is read of it is the command
@@ -185,7 +187,7 @@ module _ {A : Type 0} where
   command_back parts list read tokens more rest are a b =
       let (alike, left) = one_reply Resp2 1 (made.Array list) read tokens more rest a b in
       let (same, held) =
-      shaped_alike (AreAlike 0) (made.Array list) read (ap shape (array_is list)) alike in
+      shaped_alike (AreAlike 0) (made.Array list) read (shaped _ refl (rolls-Array list)) alike in
       let (other, is, pairs) = list_held (AreAlike 0) list (shape_of read) same held in
       let P : List (Replies A) → Type 0 = λ l. ArePairwise (AreAlike 0) l other.items in
       ((other, is, bulks_back parts other.items (subst P are pairs)), left)

@@ -9,19 +9,17 @@ use Rattle.winnow_grammar.specs.InTurn.{Led}
 use Rattle.grammars.specs.Texts.{EachText, Text}
 use Rattle.format_resp.proofs.Made.{line_mark, mark_is}
 use Rattle.format_resp.specs.Numbers.{IsBigNumber, IsDouble}
-use Rattle.format_resp.specs.Resp.{AggregateBehind, Any, Body, Bytes, Content, DataBehind, Elements}
-use Rattle.format_resp.specs.Resp.{ElementsIn, Ended, Fits, Form, IsIn, IsLineOf, IsVerbatim, Items}
-use Rattle.format_resp.specs.Resp.{LineSays, MarkText, Replies, ReplyText, Shown, first_mark}
-use Rattle.format_resp.specs.Resp.{formatted, many, shape_of}
+use Rattle.format_resp.specs.Resp.{Any, Body, Bytes, Content, Elements, ElementsIn, Ended, Fits}
+use Rattle.format_resp.specs.Resp.{Form, IsIn, IsLineOf, IsVerbatim, Items, LineSays, MarkText}
+use Rattle.format_resp.specs.Resp.{Replies, ReplyText, Shown, first_mark, formatted, many, shape_of}
+use Rattle.format_resp.specs.Resp.{AfterSize}
 use Rattle.format_resp.specs.Written.{IsBroken, IsDeeper, IsForeign, IsInvalid, IsOf, IsOrHas}
 use Rattle.format_resp.specs.Written.{IsRefused, IsUnpaired}
 use Rattle.format_resp.specs.declared.marks.AggregateMark.{AggregateMark}
-use Rattle.format_resp.specs.declared.marks.AggregateMark.TheVariants.{Star}
-use Rattle.format_resp.specs.declared.marks.DataMark.{DataMark}
-use Rattle.format_resp.specs.declared.marks.DataMark.TheVariants.{Dollar, Equals}
+use Rattle.format_resp.specs.declared.marks.DataMark.TheVariants.{Equals}
 use Rattle.format_resp.specs.declared.marks.LineMark.{LineMark}
-use Rattle.format_resp.specs.declared.marks.LineMark.TheVariants.{Colon, Comma, Hash}
-use Rattle.format_resp.specs.declared.marks.LineMark.TheVariants.{Parenthesis, Underscore}
+use Rattle.format_resp.specs.declared.marks.LineMark.TheVariants.{Colon, Comma, Hash, Parenthesis}
+use Rattle.format_resp.specs.declared.marks.LineMark.TheVariants.{Underscore}
 use Rattle.format_resp.specs.declared.marks.Mark.{Mark}
 use Rattle.format_resp.specs.declared.marks.Mark.TheVariants.{Aggregate, Data, Line}
 use Rattle.format_resp.specs.declared.reply.Protocol.{Protocol}
@@ -60,21 +58,18 @@ module _ {A : Type 0} (elements : Text ℕ (List (Replies A))) where
   line_sound form mark reply line says =
       let (x, is, (a, s)) = says in sound reply is (subst (IsLineOf mark) (sym s) a)
 
-  bytes_sound : (mark : DataMark) (size : Option ℕ) (reply : Replies A) (tokens : List ℕ)
-      → DataBehind mark size reply tokens
-      → (first_mark reply ≡ Data mark) × Sound (shape_of reply)
-  bytes_sound mark (Some n) reply tokens (bytes, is, (fits, a)) =
+  after_sound : (mark : Mark) (size : Option ℕ) (reply : Replies A) (tokens : List ℕ)
+      → AfterSize elements mark size reply tokens
+      → (first_mark reply ≡ mark) × Sound (shape_of reply)
+  after_sound (Line mark) None reply tokens (never, (is, a)) = absurd never
+  after_sound (Line mark) (Some n) reply tokens never = absurd never
+  after_sound (Data mark) None reply tokens (null, (is, a)) = (mark_is reply is, sound reply is tt)
+  after_sound (Data mark) (Some n) reply tokens (bytes, is, (fits, a)) =
       (mark_is reply is, sound reply is fits)
-  bytes_sound Dollar None reply tokens (is, a) = (mark_is reply is, sound reply is tt)
-  bytes_sound mark None reply tokens never = absurd never
-
-  aggregate_sound : (mark : AggregateMark) (size : Option ℕ) (reply : Replies A)
-      (tokens : List ℕ) → AggregateBehind elements mark size reply tokens
-      → (first_mark reply ≡ Aggregate mark) × Sound (shape_of reply)
-  aggregate_sound mark (Some n) reply tokens (list, is, (count, a)) =
+  after_sound (Aggregate mark) None reply tokens (null, (is, a)) =
+      (mark_is reply is, sound reply is tt)
+  after_sound (Aggregate mark) (Some n) reply tokens (list, is, (count, a)) =
       (mark_is reply is, sound reply is ((n, count), (tokens, a)))
-  aggregate_sound Star None reply tokens (is, a) = (mark_is reply is, sound reply is tt)
-  aggregate_sound mark None reply tokens never = absurd never
 
   pub body_sound : (form : Form) (mark : Mark) (reply : Replies A) (tokens : List ℕ)
       → Body form elements mark reply tokens
@@ -82,10 +77,8 @@ module _ {A : Type 0} (elements : Text ℕ (List (Replies A))) where
   unfolding Ended Led
   body_sound form (Line mark) reply tokens (line, says, e) =
       (line_mark form mark reply line says, line_sound form mark reply line says)
-  body_sound form (Data mark) reply tokens (size, xs, ys, s, a, e) =
-      bytes_sound mark size reply ys a
-  body_sound form (Aggregate mark) reply tokens (size, xs, ys, s, a, e) =
-      aggregate_sound mark size reply ys a
+  body_sound form mark reply tokens body =
+      let (size, xs, ys, s, a, e) = body in after_sound mark size reply ys a
 
   -- a reply that has an encoding is of the version
   pub led_sound : (form : Form) (protocol : Protocol) (reply : Replies A) (tokens : List ℕ)

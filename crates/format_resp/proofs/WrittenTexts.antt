@@ -11,23 +11,23 @@ use Rattle.std.proofs.Common.{refl, subst, arith}
 use Rattle.winnow_grammar.specs.InTurn.{Led}
 use Rattle.grammars.specs.Texts.{CountedText, EachText, Text}
 use Rattle.format_resp.proofs.LineTexts.{integer_read, size_read}
-use Rattle.format_resp.proofs.Made.{integer_is, line_mark, mark_is, shaped}
-use Rattle.format_resp.specs.Resp.{AggregateBehind, Any, Body, Bytes, DataText, Elements}
-use Rattle.format_resp.specs.Resp.{ElementsIn}
-use Rattle.format_resp.specs.Resp.{Ended, Fits, Form, IntegerText, IsIn, Items, LineSays, MarkText}
-use Rattle.format_resp.specs.Resp.{Nothing, Replies, ReplyText, Shortest, SizeIn, WrittenText}
-use Rattle.format_resp.specs.Resp.{byte_of, first_mark, formatted, line_end, many, shape_of}
+use Rattle.format_resp.proofs.Made.{line_mark, mark_is, shaped}
+use Rattle.format_resp.specs.Resp.{Any, Body, Bytes, DataText, Elements, ElementsIn, Ended, Fits}
+use Rattle.format_resp.specs.Resp.{Form, IntegerText, IsIn, Items, LineSays, MarkText, Nothing}
+use Rattle.format_resp.specs.Resp.{Replies, ReplyText, Shortest, SizeIn, WrittenText, byte_of}
+use Rattle.format_resp.specs.Resp.{first_mark, formatted, line_end, many, shape_of, AfterSize}
+use Rattle.format_resp.specs.Resp.{IsNullable}
 use Rattle.format_resp.specs.Written.{data_of, marked}
 use Rattle.format_resp.specs.declared.marks.AggregateMark.{AggregateMark}
 use Rattle.format_resp.specs.declared.marks.AggregateMark.TheVariants.{Star}
 use Rattle.format_resp.specs.declared.marks.DataMark.{DataMark}
-use Rattle.format_resp.specs.declared.marks.DataMark.TheVariants.{Dollar}
 use Rattle.format_resp.specs.declared.marks.LineMark.{LineMark}
 use Rattle.format_resp.specs.declared.marks.LineMark.TheVariants.{Colon, Hash, Underscore}
 use Rattle.format_resp.specs.declared.marks.Mark.{Mark}
 use Rattle.format_resp.specs.declared.marks.Mark.TheVariants.{Aggregate, Data, Line}
 use Rattle.format_resp.specs.declared.reply.Protocol.{Protocol}
 use Rattle.format_resp.specs.declared.reply.Reply as made
+use Rattle.format_resp.specs.declared.reply.Reply.TheViews.{rolls-Integer}
 
 pub row_as : {O : Type 0} (these those : Text ℕ O)
     → ((o : O) (xs : List ℕ) → these o xs → those o xs) → (os : List O) (xs : List ℕ)
@@ -51,20 +51,21 @@ module _ (f g : Form) {A : Type 0} (protocol : Protocol)
   line_as Hash reply xs x = x
   line_as mark reply xs x = x
 
-  behind_as : (mark : AggregateMark) (size : Option ℕ) (reply : Replies A) (xs : List ℕ)
-      → AggregateBehind these mark size reply xs → AggregateBehind those mark size reply xs
-  behind_as mark (Some n) reply xs (list, is, (many, a)) =
+  after_as : (mark : Mark) (size : Option ℕ) (reply : Replies A) (xs : List ℕ)
+      → AfterSize these mark size reply xs → AfterSize those mark size reply xs
+  after_as mark None reply xs x = x
+  after_as (Line mark) (Some n) reply xs never = never
+  after_as (Data mark) (Some n) reply xs x = x
+  after_as (Aggregate mark) (Some n) reply xs (list, is, (many, a)) =
       (list, is, (many, leads list.items xs a))
-  behind_as Star None reply xs x = x
-  behind_as mark None reply xs x = x
 
   body_as : (mark : Mark) (reply : Replies A) (xs : List ℕ) → Body f these mark reply xs
       → Body g those mark reply xs
   unfolding Led Ended
   body_as (Line mark) reply xs (line, a, e) = (line, line_as mark reply line a, e)
-  body_as (Data mark) reply xs (size, ys, zs, s, b, e) = (size, ys, zs, sizes size ys s, b, e)
-  body_as (Aggregate mark) reply xs (size, ys, zs, s, b, e) =
-      (size, ys, zs, sizes size ys s, behind_as mark size reply zs b, e)
+  body_as mark reply xs body =
+      let (size, ys, zs, s, b, e) = body in
+      (size, ys, zs, sizes size ys s, after_as mark size reply zs b, e)
 
   reply_as : (reply : Replies A) (xs : List ℕ) → Led (MarkText protocol) (Body f these) reply xs
       → Led (MarkText protocol) (Body g those) reply xs
@@ -169,7 +170,7 @@ module _ {A : Type 0} (protocol : Protocol) (level : ℕ) (reply : Replies A) wh
   pub integer_text : (n : ℤ) → reply ≡ made.Integer n → FitsSigned w64 n
       → Encodes protocol level reply (marked 58 (signed_decimal n))
   integer_text n is fits =
-      line_text Colon (signed_decimal n) (n, shaped is (integer_is n), (fits, refl))
+      line_text Colon (signed_decimal n) (n, shaped _ is (rolls-Integer n), (fits, refl))
 
   pub data_text : (mark : DataMark) (bytes : Bor (List ℕ))
       → shape_of reply ≡ (Data mark, Bytes bytes) → Fits (formatted mark) bytes.now
@@ -202,14 +203,9 @@ module _ {A : Type 0} (protocol : Protocol) (level : ℕ) (reply : Replies A) wh
         refl,
       )
 
-  pub null_bulk_text : shape_of reply ≡ (Data Dollar, Nothing)
-      → Encodes protocol level reply (marked 36 (45 ∷ 49 ∷ []))
+  pub null_text : (mark : Mark) → IsNullable mark → shape_of reply ≡ (mark, Nothing)
+      → Encodes protocol level reply (marked (byte_of mark) (45 ∷ 49 ∷ []))
   unfolding Led Ended
-  null_bulk_text is = led_text (Data Dollar) (45 ∷ 49 ∷ line_end) (mark_is reply is)
-      (None, 45 ∷ 49 ∷ line_end, [], (45 ∷ 49 ∷ [], refl, refl), (is, refl), refl)
-
-  pub null_array_text : shape_of reply ≡ (Aggregate Star, Nothing)
-      → Encodes protocol level reply (marked 42 (45 ∷ 49 ∷ []))
-  unfolding Led Ended
-  null_array_text is = led_text (Aggregate Star) (45 ∷ 49 ∷ line_end) (mark_is reply is)
-      (None, 45 ∷ 49 ∷ line_end, [], (45 ∷ 49 ∷ [], refl, refl), (is, refl), refl)
+  null_text (Line mark) never is = absurd never
+  null_text mark null is = led_text mark (45 ∷ 49 ∷ line_end) (mark_is reply is)
+      (None, 45 ∷ 49 ∷ line_end, [], (45 ∷ 49 ∷ [], refl, refl), (null, (is, refl)), refl)

@@ -1,13 +1,13 @@
 -- The first lines of replies, and their information about the bytes after them.
-use Rattle.std.specs.Prelude.{◌≡◌, ◌≤◌, ◌<◌, ◌^◌, ⊤, ℕ, List, [], ◌∷◌, ◌++◌}
-use Rattle.std.specs.Prelude.{length, take, drop, Option, None, Some}
+use Rattle.std.specs.Prelude.{◌≡◌, ◌≤◌, ◌<◌, ◌^◌, ⊤, ℕ, List, [], ◌∷◌, ◌++◌, length, take, drop}
+use Rattle.std.specs.Prelude.{Option, None, Some}
 use Rattle.std.specs.List.{AllByRecursion}
 use Rattle.winnow_grammar.specs.InTurn.{First, Led}
 use Rattle.grammars.specs.Texts.{Text}
 use Rattle.format_resp.specs.Lines.{EndsLine, IsOpen}
 use Rattle.format_resp.specs.Numbers.{AreDigits, IsBigNumber, SizeLine}
-use Rattle.format_resp.specs.Resp.{Any, Ended, InLine, IsIn, LineSays, MarkText, byte_of, formatted}
-use Rattle.format_resp.specs.Resp.{many}
+use Rattle.format_resp.specs.Resp.{Any, Ended, InLine, IsIn, IsNullable, LineSays, MarkText}
+use Rattle.format_resp.specs.Resp.{byte_of, formatted, many}
 use Rattle.format_resp.specs.Resp as resp
 use Rattle.format_resp.specs.declared.extent.Reason.{Reason}
 use Rattle.format_resp.specs.declared.extent.Reason.TheVariants.{Malformed, TooDeep, TooLarge}
@@ -15,22 +15,21 @@ use Rattle.format_resp.specs.declared.heads.Head.{Head}
 use Rattle.format_resp.specs.declared.heads.Head.TheVariants.{Data, Ends, Replies}
 use Rattle.format_resp.specs.declared.heads.Start.{Start}
 use Rattle.format_resp.specs.declared.heads.Start.TheVariants.{Never, Open, Whole}
-use Rattle.format_resp.specs.declared.marks.AggregateMark.TheVariants.{Star}
-use Rattle.format_resp.specs.declared.marks.DataMark.TheVariants.{Dollar}
 use Rattle.format_resp.specs.declared.marks.LineMark.TheVariants.{Colon}
 use Rattle.format_resp.specs.declared.marks.Mark.{Mark}
 use Rattle.format_resp.specs.declared.marks.Mark.TheVariants as marks
 use Rattle.format_resp.specs.declared.reply.Protocol.{Protocol}
 
--- what is after a size: the bytes of a string, or replies; the size of a bulk string or of an array
--- may be that of null
-abbrev pub head_after : Mark → Option ℕ → Option Head
-head_after (marks.Data mark) (Some n) =
-    Some (Data (record { size = n; verbatim = formatted mark }))
-head_after (marks.Data Dollar) None = Some Ends
-head_after (marks.Aggregate mark) (Some n) = Some (Replies (many mark n))
-head_after (marks.Aggregate Star) None = Some Ends
-head_after mark size = None
+-- what is after a size: the bytes of a string, or replies
+abbrev pub IsSized : Mark → ℕ → Head → Type 0
+IsSized (marks.Line mark) n head = ⊥
+IsSized (marks.Data mark) n head = Data (record { size = n; verbatim = formatted mark }) ≡ head
+IsSized (marks.Aggregate mark) n head = Replies (many mark n) ≡ head
+
+-- what is after the line of a size, which may be that of null
+abbrev pub IsAfter : Mark → Option ℕ → Head → Type 0
+IsAfter mark None head = IsNullable mark × (Ends ≡ head)
+IsAfter mark (Some n) head = IsSized mark n head
 
 -- it is not of 2 ^ 63 replies or more
 abbrev pub IsSmall : Head → Type 0
@@ -42,7 +41,7 @@ abbrev pub Says : Mark → Text ℕ Head
 Says (marks.Line mark) head line =
     (head ≡ Ends) × ((reply : resp.Replies ⊤) × LineSays Any mark reply line)
 Says mark head line =
-    (size : Option ℕ) × SizeLine size line × (head_after mark size ≡ Some head) × IsSmall head
+    (size : Option ℕ) × SizeLine size line × IsAfter mark size head × IsSmall head
 
 -- the first line of a reply, by its meaning
 abbrev pub HeadText : Protocol → Text ℕ Head

@@ -22,9 +22,8 @@ use Rattle.format_resp.specs.declared.marks.Mark.{Mark}
 use Rattle.format_resp.specs.declared.marks.Mark.TheVariants.{Aggregate, Data, Line}
 use Rattle.format_resp.specs.declared.reply.Protocol.{Protocol}
 use Rattle.format_resp.specs.declared.reply.Protocol.TheVariants.{Resp3}
-use Rattle.format_resp.specs.declared.reply.Reply.{Reply}
+use Rattle.format_resp.specs.declared.reply.Reply.{Reply, out-Reply}
 use Rattle.format_resp.specs.declared.reply.Reply as made
-use Rattle.format_resp.specs.declared.reply.Reply.{out-Reply}
 use Rattle.format_resp.specs.declared.reply.Reply.TheOpen.{Reply-F}
 
 -- a carriage return and a line feed
@@ -108,6 +107,12 @@ Fits false bytes = ⊤
 -- the data of a string and a line ending
 abbrev pub StringText : Bulk → Text ℕ (Bor (List ℕ))
 StringText bulk bytes tokens = Fits bulk.verbatim bytes.now × DataText bulk.size bytes tokens
+
+-- The size of a bulk string or of an array may be that of null.
+abbrev pub IsNullable : Mark → Type 0
+IsNullable (Data Dollar) = ⊤
+IsNullable (Aggregate Star) = ⊤
+IsNullable mark = ⊥
 
 -- how many replies are in an aggregate: keys and values are counted in twos, and after attributes
 -- the reply is that they are of
@@ -207,31 +212,27 @@ module _ {A : Type 0} where
   LineSays form Hash = For (λ b. (Line Hash, Truth b)) BooleanText
   LineSays form mark = For (λ text. (Line mark, Bytes text)) (Shown (IsLineOf mark))
 
-  -- after the size of a reply: its bytes, and a line ending; the size of a bulk string may be that
-  -- of null
-  abbrev pub DataBehind : DataMark → Option ℕ → Text ℕ (Replies A)
-  DataBehind mark (Some n) = For (λ bytes. (Data mark, Bytes bytes))
-      (StringText (record { size = n; verbatim = formatted mark }))
-  DataBehind Dollar None = Empty (Data Dollar)
-  DataBehind mark None = λ reply tokens. ⊥
-
   -- a list of `n` replies
   abbrev pub ListText : Text ℕ (List (Replies A)) → ℕ → Text ℕ (Vec (Replies A) A)
   ListText elements n list tokens = (length list.items ≡ n) × elements list.items tokens
 
-  -- after the size of an aggregate: its elements; of an array the size may be that of null
-  abbrev pub AggregateBehind : Text ℕ (List (Replies A)) → AggregateMark → Option ℕ
-      → Text ℕ (Replies A)
-  AggregateBehind elements mark (Some n) =
+  -- after a size: the bytes of a string and a line ending, or the elements of an aggregate
+  abbrev pub SizedText : Text ℕ (List (Replies A)) → Mark → ℕ → Text ℕ (Replies A)
+  SizedText elements (Line mark) n = λ reply tokens. ⊥
+  SizedText elements (Data mark) n = For (λ bytes. (Data mark, Bytes bytes))
+      (StringText (record { size = n; verbatim = formatted mark }))
+  SizedText elements (Aggregate mark) n =
       For (λ list. (Aggregate mark, Items list)) (ListText elements (many mark n))
-  AggregateBehind elements Star None = Empty (Aggregate Star)
-  AggregateBehind elements mark None = λ reply tokens. ⊥
+
+  -- after the line of a size, which may be that of null
+  abbrev pub AfterSize : Text ℕ (List (Replies A)) → Mark → Option ℕ → Text ℕ (Replies A)
+  AfterSize elements mark None = λ reply tokens. IsNullable mark × Empty mark reply tokens
+  AfterSize elements mark (Some n) = SizedText elements mark n
 
   -- after the first byte
   abbrev pub Body : Form → Text ℕ (List (Replies A)) → Mark → Text ℕ (Replies A)
   Body form elements (Line mark) = Ended (LineSays form mark)
-  Body form elements (Data mark) = Led (SizeIn form) (DataBehind mark)
-  Body form elements (Aggregate mark) = Led (SizeIn form) (AggregateBehind elements mark)
+  Body form elements mark = Led (SizeIn form) (AfterSize elements mark)
 
 module _ (form : Form) (protocol : Protocol) {A : Type 0} where
   -- the elements of an aggregate nested at most this deep, counting the aggregate itself

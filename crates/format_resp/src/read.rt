@@ -3,8 +3,11 @@
 ghost use Rattle.streams.specs.Bytes.{bytes_follow, bytes_reading};
 ghost use Rattle.winnow_grammar.specs.InTurn.{First, Led};
 ghost use Rattle.format_resp.specs.MustAsk.{ReadsOrMustAsk};
-ghost use Rattle.format_resp.specs.Resp.{AggregateBehind, Any, DataBehind, Elements, Ended};
-ghost use Rattle.format_resp.specs.Resp.{LineSays, ReplyText, SizeText};
+ghost use Rattle.format_resp.specs.Resp.{AfterSize, Any, Elements, Ended, LineSays, ReplyText};
+ghost use Rattle.format_resp.specs.Resp.{SizeText};
+ghost use Rattle.format_resp.specs.declared.marks.Mark.TheVariants as marks;
+ghost use Rattle.format_resp.specs.declared.reply.Protocol.{Protocol};
+ghost use Rattle.std.specs.Prelude.{ℕ};
 
 use crate::kinds::{aggregate_reply, count_of, data_reply, line_reply};
 use crate::leaves::{read_data, read_line, read_size};
@@ -46,9 +49,10 @@ fn read_bytes<'i, A: Allocator>(
     mark: DataMark,
     input: &mut Partial<&'i [u8]>,
 ) -> Result<Reply<&'i [u8], A>, ErrMode<EmptyError>>
-    ensures { ReadsOrMustAsk bytes_reading bytes_follow ⟦<Error as HasKind>⟧.kind
-        (First (Led SizeText (DataBehind mark))) (⟦<Bytes as Stream>⟧.view input.old) result
-        (⟦<Bytes as Stream>⟧.view input.new) }
+    ensures { (protocol : Protocol) (level : ℕ)
+        → ReadsOrMustAsk bytes_reading bytes_follow ⟦<Error as HasKind>⟧.kind
+        (First (Led SizeText (AfterSize (Elements protocol level) (marks.Data mark))))
+        (⟦<Bytes as Stream>⟧.view input.old) result (⟦<Bytes as Stream>⟧.view input.new) }
 {
     match read_size(input)? {
         None => match mark {
@@ -93,7 +97,7 @@ fn read_aggregate<'i, A: Allocator + Copy>(
     input: &mut Partial<&'i [u8]>,
 ) -> Result<Reply<&'i [u8], A>, ErrMode<EmptyError>>
     ensures { ReadsOrMustAsk bytes_reading bytes_follow ⟦<Error as HasKind>⟧.kind
-        (First (Led SizeText (AggregateBehind (Elements protocol level) mark)))
+        (First (Led SizeText (AfterSize (Elements protocol level) (marks.Aggregate mark))))
         (⟦<Bytes as Stream>⟧.view input.old) result (⟦<Bytes as Stream>⟧.view input.new) }
 {
     match read_size(input)? {

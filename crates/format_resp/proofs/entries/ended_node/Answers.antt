@@ -1,13 +1,14 @@
-use Rattle.std.specs.Prelude.{◌-◌, ⊤, ℕ, List, length}
-use Rattle.std.proofs.Common.{ap, arith, refl, subst}
+use Rattle.std.specs.Prelude.{◌-◌, ⊤, ℕ, List, length, ◌+◌, pos}
+use Rattle.std.proofs.Common.{ap, arith, refl, subst, ◌∙◌}
 use Rattle.std.proofs.lemmas.List.{nil_from_length}
 use Rattle.format_resp.proofs.FirstLines.{line_at}
-use Rattle.format_resp.proofs.NodeTexts.{ended_data, ended_line, ended_list, line_found}
-use Rattle.format_resp.proofs.NodeTexts.{mark_found, no_bytes, no_mark}
+use Rattle.format_resp.proofs.NodeTexts.{ended_line, line_found, mark_found, no_bytes, no_mark}
+use Rattle.format_resp.proofs.NodeTexts.{array_kind, bulk_kind, ended_null}
 use Rattle.format_resp.specs.Resp.{Any, LineSays, Replies}
 use Rattle.format_resp.specs.Writing.{IsLineNode}
 use Rattle.format_resp.specs.declared.heads.Head.TheVariants as heads
 use Rattle.format_resp.specs.declared.marks.Mark.TheVariants.{Aggregate, Data, Line}
+use Rattle.format_resp.specs.Nodes.{number_node}
 use Rattle.format_resp.proofs.entries.ended_node.Goals as goal
 
 pub returns-in-None : goal.returns-in-None
@@ -44,8 +45,10 @@ returns-in-Some-Data c protocol found =
     let bytes = c.args.bytes.now in
     let left = c.args.left.now in
     let at = line_at protocol bytes left found in
-    ended_data protocol c.args.size c.args.index bytes left _ c.in-Some-Data._mark
-    c.of_number.ensures at (mark_found protocol heads.Ends bytes left (Data c.in-Some-Data._mark)
+    ended_null protocol c.args.size c.args.index bytes left _ (Data c.in-Some-Data._mark)
+    (λ of e. cc) (λ null. c.of_number.ensures ∙ ap (λ k. number_node k (pos 0) (c.args.index + 1))
+    (bulk_kind c.in-Some-Data._mark null)) at
+    (mark_found protocol heads.Ends bytes left (Data c.in-Some-Data._mark)
     c.in-Some.byte.now c.in-Some.text.now c.in-Some.ensures.cases.0
     (rw c.in-Some-Data.field-0-is at c.in-Some-Data.ensures.some) at)
 
@@ -54,8 +57,11 @@ returns-in-Some-Aggregate c protocol found =
     let bytes = c.args.bytes.now in
     let left = c.args.left.now in
     let at = line_at protocol bytes left found in
-    ended_list protocol c.args.size c.args.index bytes left _ c.in-Some-Aggregate._mark
-    c.of_number-in-Some-Aggregate.ensures at
+    ended_null protocol c.args.size c.args.index bytes left _
+    (Aggregate c.in-Some-Aggregate._mark) (λ of e. cc)
+    (λ null. c.of_number-in-Some-Aggregate.ensures
+    ∙ ap (λ k. number_node k (pos 0) (c.args.index + 1))
+    (array_kind c.in-Some-Aggregate._mark null)) at
     (mark_found protocol heads.Ends bytes left (Aggregate c.in-Some-Aggregate._mark)
     c.in-Some.byte.now c.in-Some.text.now c.in-Some.ensures.cases.0
     (rw c.in-Some-Aggregate.field-0-is at c.in-Some-Aggregate.ensures.some) at)

@@ -1,7 +1,8 @@
 use Rattle.std.specs.Prelude.{None, Some, ℕ}
 use Rattle.std.proofs.Common.{ap, arith, refl, sym}
-use Rattle.format_resp.proofs.FirstLines.{no_null_aggregate, too_many}
+use Rattle.format_resp.proofs.FirstLines.{too_many, no_null, only_star}
 use Rattle.format_resp.specs.declared.heads.Head.TheVariants.{Replies}
+use Rattle.format_resp.specs.declared.marks.Mark.TheVariants.{Aggregate}
 use Rattle.format_resp.proofs.heads.aggregate_head.Goals as goal
 
 pub returns-then-count-le-MOST-clause-head : goal.returns-then-count-le-MOST-clause-head
@@ -10,7 +11,7 @@ returns-then-count-le-MOST-clause-head c =
     let many = c.in-Some.ensures.some in (
       Some c.in-Some-Some.size,
       is,
-      ap (λ (n : ℕ). Some (Replies n)) (sym many),
+      ap (λ (n : ℕ). Replies n) (sym many),
       omega (arith, many, c.if-count-le-MOST.true),
     )
 
@@ -29,12 +30,13 @@ returns-in-None-count_of-clause-rejected c =
 pub returns-in-Star-clause-head : goal.returns-in-Star-clause-head
 returns-in-Star-clause-head c =
     let is = rw c.in-Some-None.field-0-is at c.in-Some-None.ensures.some in
-    (None, is, rw c.in-Star.is refl, tt)
+    (None, is, rw c.in-Star.is (tt, refl), tt)
 
 pub returns-in_default-clause-rejected : goal.returns-in_default-clause-rejected
 returns-in_default-clause-rejected c =
     let is = rw c.in-Some-None.field-0-is at c.in-Some-None.ensures.some in
-    no_null_aggregate c.args.mark c.args.line.now is c.in_default.not-Star
+    no_null (Aggregate c.args.mark) c.args.line.now (λ of e. cc) is
+    (only_star c.args.mark c.in_default.not-Star)
 
 pub returns-in-None-clause-rejected : goal.returns-in-None-clause-rejected
 returns-in-None-clause-rejected c =

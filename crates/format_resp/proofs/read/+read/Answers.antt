@@ -1,19 +1,22 @@
-use Rattle.std.proofs.Common.{ap, arith, refl, ◌≡◌, ◌++◌, ◌∷◌, [], suc}
+use Rattle.std.proofs.Common.{arith, refl, ◌≡◌, ◌++◌, ◌∷◌, [], suc}
 use Rattle.streams.specs.Input.{is_end_of_trans3}
 use Rattle.winnow_grammar.specs.InTurn.{failed, led_failed, led_none, led_stood, led_told, passed}
-use Rattle.winnow_grammar.specs.InTurn.{stood}
-use Rattle.winnow_grammar.specs.InTurn.{told_err, told_ok, wanting}
+use Rattle.winnow_grammar.specs.InTurn.{stood, told_err, told_ok, wanting}
 use Rattle.winnow_grammar.specs.InTurn.Rows.{more_failed, more_stood, none_stood}
 use Rattle.format_resp.proofs.LineTexts.{size_splits}
-use Rattle.format_resp.proofs.Encodings.{alone_stood, pushed, roomy}
-use Rattle.format_resp.proofs.Bodies.{aggregate_failed, aggregate_stood, no_null_aggregate}
-use Rattle.format_resp.proofs.Bodies.{too_deep, too_many}
+use Rattle.format_resp.proofs.Encodings.{pushed, roomy}
+use Rattle.format_resp.proofs.Bodies.{aggregate_failed, aggregate_stood, too_deep, too_many}
+use Rattle.format_resp.proofs.Bodies.{null_stood, no_null_body}
 use Rattle.format_resp.proofs.AlikeReplies.{reply_unique}
 use Rattle.format_resp.proofs.FirstBytes.{mark_splits}
-use Rattle.format_resp.proofs.Made.{gathered_is, null_array_is}
+use Rattle.format_resp.proofs.Made.{gathered_is, shaped}
 use Rattle.format_resp.proofs.MustAsk.{backs, both, each, wants}
-use Rattle.format_resp.specs.Resp.{Elements, MarkText, ReplyText, SizeText, shape}
+use Rattle.format_resp.specs.Resp.{Elements, MarkText, ReplyText, SizeText}
 use Rattle.format_resp.specs.declared.reply.Reply as made
+use Rattle.format_resp.specs.declared.reply.Reply.TheViews.{rolls-NullArray}
+use Rattle.format_resp.specs.declared.marks.AggregateMark.TheVariants.{Star}
+use Rattle.format_resp.specs.declared.marks.Mark.TheVariants.{Aggregate}
+use Rattle.format_resp.proofs.FirstLines.{only_star}
 use Rattle.format_resp.proofs.read.+read.Goals as goal
 
 pub read_aggregate-returns-in_err-read_size : goal.read_aggregate-returns-in_err-read_size
@@ -69,14 +72,15 @@ read_aggregate-loop-preserved g t c more =
 pub read_aggregate-returns-in-Star : goal.read_aggregate-returns-in-Star
 read_aggregate-returns-in-Star g t c =
     both (λ more. told_ok (led_stood SizeText _ (stood (each c.in_ok-read_size.ensures more))
-    (rw (c.in-None.is, c.in-Star.is) (alone_stood _ made.NullArray (ap shape null_array_is)))))
+    (rw (c.in-None.is, c.in-Star.is) (null_stood (Elements c.args.protocol c.args.level)
+    (Aggregate Star) made.NullArray tt (shaped _ refl rolls-NullArray)))))
 
 pub read_aggregate-returns-in_default : goal.read_aggregate-returns-in_default
 read_aggregate-returns-in_default g t c =
     both (λ more. told_err (led_failed SizeText _ size_splits
     (stood (each c.in_ok-read_size.ensures more)) (rw c.in-None.is
-    (no_null_aggregate (Elements c.args.protocol c.args.level) c.args.mark c.in_default.not-Star
-    (backs more c.from_input.ensures)))))
+    (no_null_body (Elements c.args.protocol c.args.level) (Aggregate c.args.mark)
+    (only_star c.args.mark c.in_default.not-Star) (backs more c.from_input.ensures)))))
 
 pub read_aggregate-returns-in-None-checked_sub : goal.read_aggregate-returns-in-None-checked_sub
 read_aggregate-returns-in-None-checked_sub g t c =
@@ -123,7 +127,8 @@ read_reply-returns-in-Line g t c =
 pub read_reply-returns-in-Data : goal.read_reply-returns-in-Data
 read_reply-returns-in-Data g t c =
     both (λ more. led_told (MarkText c.args.protocol) _ (mark_splits c.args.protocol)
-    (stood (each c.in_ok-mark.ensures more)) (rw c.in-Data.is (each c.read_bytes.ensures more)))
+    (stood (each c.in_ok-mark.ensures more)) (rw c.in-Data.is
+    (each (c.read_bytes.ensures c.args.protocol c.args.level) more)))
 
 pub read_reply-returns-in-Aggregate : goal.read_reply-returns-in-Aggregate
 read_reply-returns-in-Aggregate g t c =

@@ -5,9 +5,7 @@ use Rattle.std.proofs.Common.{◌-◌, ◌∙◌, arith, inl, inr, refl, rules, 
 use Rattle.grammars.specs.Texts.{EachText}
 use Rattle.std.proofs.lemmas.Result.{IfErr-weaker, on_ok_weaker}
 use Rattle.format_resp.proofs.Encodings.{shown_is}
-use Rattle.format_resp.proofs.Made.{big_number_is, boolean_is, bulk_error_is, bulk_is, double_is}
-use Rattle.format_resp.proofs.Made.{error_is, null_array_is, null_bulk_is, null_is}
-use Rattle.format_resp.proofs.Made.{shaped, simple_is, verbatim_is}
+use Rattle.format_resp.proofs.Made.{shaped}
 use Rattle.format_resp.proofs.OnlyTexts.{written_only}
 use Rattle.format_resp.proofs.Rooms.{aggregate_full, full_err, lacks_behind, lacks_first}
 use Rattle.format_resp.proofs.Rooms.{row_behind, row_first, text_err, valid_full}
@@ -15,16 +13,22 @@ use Rattle.format_resp.proofs.Writing.{adds, aggregate_put, among, as_error, dee
 use Rattle.format_resp.proofs.Writing.{if_error, keeps_trans, or_itself, refused_count}
 use Rattle.format_resp.proofs.Writing.{refused_foreign, refused_within, row_end, row_more}
 use Rattle.format_resp.proofs.Writing.{valid_put}
-use Rattle.format_resp.proofs.WrittenTexts.{data_text, integer_text, line_text, null_array_text}
-use Rattle.format_resp.proofs.WrittenTexts.{null_bulk_text}
+use Rattle.format_resp.proofs.WrittenTexts.{data_text, integer_text, line_text, null_text}
 use Rattle.format_resp.specs.Numbers.{IsBigNumber, IsDouble}
 use Rattle.format_resp.specs.Resp.{InLine, WrittenText, gathered}
 use Rattle.format_resp.specs.Written.{IsBroken, marked}
 use Rattle.format_resp.specs.declared.marks.DataMark.TheVariants.{Dollar, Equals, Exclamation}
-use Rattle.format_resp.specs.declared.marks.LineMark.TheVariants.{Comma, Hash, Minus}
-use Rattle.format_resp.specs.declared.marks.LineMark.TheVariants.{Parenthesis, Plus, Underscore}
+use Rattle.format_resp.specs.declared.marks.LineMark.TheVariants.{Comma, Hash, Minus, Parenthesis}
+use Rattle.format_resp.specs.declared.marks.LineMark.TheVariants.{Plus, Underscore}
+use Rattle.format_resp.specs.declared.marks.AggregateMark.TheVariants.{Star}
+use Rattle.format_resp.specs.declared.marks.Mark.TheVariants.{Aggregate, Data}
 use Rattle.format_resp.specs.declared.write.WriteError.TheVariants.{BigNumber, Double, Format}
 use Rattle.format_resp.specs.declared.write.WriteError.TheVariants.{LineBreak}
+use Rattle.format_resp.specs.declared.reply.Reply.TheViews.{rolls-BigNumber, rolls-Boolean}
+use Rattle.format_resp.specs.declared.reply.Reply.TheViews.{rolls-Bulk, rolls-BulkError}
+use Rattle.format_resp.specs.declared.reply.Reply.TheViews.{rolls-Double, rolls-Error, rolls-Null}
+use Rattle.format_resp.specs.declared.reply.Reply.TheViews.{rolls-NullArray, rolls-NullBulk}
+use Rattle.format_resp.specs.declared.reply.Reply.TheViews.{rolls-Simple, rolls-Verbatim}
 use Rattle.format_resp.proofs.write.+write.Goals as goal
 
 -- ---- elements
@@ -149,27 +153,27 @@ pub write_nested-returns-in-Simple-clause-written :
 write_nested-returns-in-Simple-clause-written g t c =
     valid_put c.args.protocol c.args.level _ _ _ _ c.if-is_foreign.ensures
     (λ valid. line_text c.args.protocol c.args.level _ Plus _
-    (_, shaped c.in-Simple.is (simple_is _), shown_is (AllByRecursion InLine) _ valid))
+    (_, shaped _ c.in-Simple.is (rolls-Simple _), shown_is (AllByRecursion InLine) _ valid))
     c.write_text.result c.write_text.ensures.written
 
 pub write_nested-returns-in-Simple-clause-refused :
     goal.write_nested-returns-in-Simple-clause-refused
 write_nested-returns-in-Simple-clause-refused g t c =
     as_error c.args.protocol c.args.level _ LineBreak
-    (λ not. or_itself IsBroken _ (inl (_, shaped c.in-Simple.is (simple_is _), not)))
+    (λ not. or_itself IsBroken _ (inl (_, shaped _ c.in-Simple.is (rolls-Simple _), not)))
     c.write_text.result c.write_text.ensures.refused
 
 pub write_nested-returns-in-Error-clause-written : goal.write_nested-returns-in-Error-clause-written
 write_nested-returns-in-Error-clause-written g t c =
     valid_put c.args.protocol c.args.level _ _ _ _ c.if-is_foreign.ensures
     (λ valid. line_text c.args.protocol c.args.level _ Minus _
-    (_, shaped c.in-Error.is (error_is _), shown_is (AllByRecursion InLine) _ valid))
+    (_, shaped _ c.in-Error.is (rolls-Error _), shown_is (AllByRecursion InLine) _ valid))
     c.write_text-in-Error.result c.write_text-in-Error.ensures.written
 
 pub write_nested-returns-in-Error-clause-refused : goal.write_nested-returns-in-Error-clause-refused
 write_nested-returns-in-Error-clause-refused g t c =
     as_error c.args.protocol c.args.level _ LineBreak
-    (λ not. or_itself IsBroken _ (inr (_, shaped c.in-Error.is (error_is _), not)))
+    (λ not. or_itself IsBroken _ (inr (_, shaped _ c.in-Error.is (rolls-Error _), not)))
     c.write_text-in-Error.result c.write_text-in-Error.ensures.refused
 
 pub write_nested-returns-in-Double-clause-written :
@@ -177,14 +181,14 @@ pub write_nested-returns-in-Double-clause-written :
 write_nested-returns-in-Double-clause-written g t c =
     valid_put c.args.protocol c.args.level _ _ _ _ c.if-is_foreign.ensures
     (λ valid. line_text c.args.protocol c.args.level _ Comma _
-    (_, shaped c.in-Double.is (double_is _), shown_is IsDouble _ valid))
+    (_, shaped _ c.in-Double.is (rolls-Double _), shown_is IsDouble _ valid))
     c.write_double.result c.write_double.ensures.written
 
 pub write_nested-returns-in-Double-clause-refused :
     goal.write_nested-returns-in-Double-clause-refused
 write_nested-returns-in-Double-clause-refused g t c =
     as_error c.args.protocol c.args.level _ Double
-    (λ not. or_itself _ _ (_, shaped c.in-Double.is (double_is _), not))
+    (λ not. or_itself _ _ (_, shaped _ c.in-Double.is (rolls-Double _), not))
     c.write_double.result c.write_double.ensures.refused
 
 pub write_nested-returns-in-BigNumber-clause-written :
@@ -192,14 +196,14 @@ pub write_nested-returns-in-BigNumber-clause-written :
 write_nested-returns-in-BigNumber-clause-written g t c =
     valid_put c.args.protocol c.args.level _ _ _ _ c.if-is_foreign.ensures
     (λ valid. line_text c.args.protocol c.args.level _ Parenthesis _
-    (_, shaped c.in-BigNumber.is (big_number_is _), shown_is IsBigNumber _ valid))
+    (_, shaped _ c.in-BigNumber.is (rolls-BigNumber _), shown_is IsBigNumber _ valid))
     c.write_big_number.result c.write_big_number.ensures.written
 
 pub write_nested-returns-in-BigNumber-clause-refused :
     goal.write_nested-returns-in-BigNumber-clause-refused
 write_nested-returns-in-BigNumber-clause-refused g t c =
     as_error c.args.protocol c.args.level _ BigNumber
-    (λ not. or_itself _ _ (_, shaped c.in-BigNumber.is (big_number_is _), not))
+    (λ not. or_itself _ _ (_, shaped _ c.in-BigNumber.is (rolls-BigNumber _), not))
     c.write_big_number.result c.write_big_number.ensures.refused
 
 pub write_nested-returns-in-Verbatim-clause-written :
@@ -207,14 +211,14 @@ pub write_nested-returns-in-Verbatim-clause-written :
 write_nested-returns-in-Verbatim-clause-written g t c =
     valid_put c.args.protocol c.args.level _ _ _ _ c.if-is_foreign.ensures
     (λ valid. data_text c.args.protocol c.args.level _ Equals _
-    (shaped c.in-Verbatim.is (verbatim_is _)) valid (search rules))
+    (shaped _ c.in-Verbatim.is (rolls-Verbatim _)) valid (search rules))
     c.write_verbatim.result c.write_verbatim.ensures.written
 
 pub write_nested-returns-in-Verbatim-clause-refused :
     goal.write_nested-returns-in-Verbatim-clause-refused
 write_nested-returns-in-Verbatim-clause-refused g t c =
     as_error c.args.protocol c.args.level _ Format
-    (λ not. or_itself _ _ (_, shaped c.in-Verbatim.is (verbatim_is _), not))
+    (λ not. or_itself _ _ (_, shaped _ c.in-Verbatim.is (rolls-Verbatim _), not))
     c.write_verbatim.result c.write_verbatim.ensures.refused
 
 pub write_nested-returns-in_ok-write_integer-in-Integer-clause-written :
@@ -227,41 +231,43 @@ pub write_nested-returns-in_ok-write_line-in-Null-clause-written :
     goal.write_nested-returns-in_ok-write_line-in-Null-clause-written
 write_nested-returns-in_ok-write_line-in-Null-clause-written g t c =
     adds _ (line_text c.args.protocol c.args.level _ Underscore []
-    (shaped c.in-Null.is null_is, refl) c.if-is_foreign.ensures)
+    (shaped _ c.in-Null.is rolls-Null, refl) c.if-is_foreign.ensures)
     c.in_ok-write_line-in-Null.ensures.written
 
 pub write_nested-returns-in_ok-write_line-in-Boolean-clause-written :
     goal.write_nested-returns-in_ok-write_line-in-Boolean-clause-written
 write_nested-returns-in_ok-write_line-in-Boolean-clause-written g t c =
     adds _ (line_text c.args.protocol c.args.level _ Hash _
-    (_, shaped c.in-Boolean.is (boolean_is _), c.boolean_text.ensures) c.if-is_foreign.ensures)
+    (_, shaped _ c.in-Boolean.is (rolls-Boolean _), c.boolean_text.ensures) c.if-is_foreign.ensures)
     c.in_ok-write_line-in-Boolean.ensures.written
 
 pub write_nested-returns-in_ok-write_data-in-BulkError-clause-written :
     goal.write_nested-returns-in_ok-write_data-in-BulkError-clause-written
 write_nested-returns-in_ok-write_data-in-BulkError-clause-written g t c =
     adds _ (data_text c.args.protocol c.args.level _ Exclamation _
-    (shaped c.in-BulkError.is (bulk_error_is _)) tt (search rules) c.if-is_foreign.ensures)
+    (shaped _ c.in-BulkError.is (rolls-BulkError _)) tt (search rules) c.if-is_foreign.ensures)
     c.in_ok-write_data-in-BulkError.ensures.written
 
 pub write_nested-returns-in_ok-write_data-in-Bulk-clause-written :
     goal.write_nested-returns-in_ok-write_data-in-Bulk-clause-written
 write_nested-returns-in_ok-write_data-in-Bulk-clause-written g t c =
     adds _ (data_text c.args.protocol c.args.level _ Dollar _
-    (shaped c.in-Bulk.is (bulk_is _)) tt (search rules) c.if-is_foreign.ensures)
+    (shaped _ c.in-Bulk.is (rolls-Bulk _)) tt (search rules) c.if-is_foreign.ensures)
     c.in_ok-write_data-in-Bulk.ensures.written
 
 pub write_nested-returns-in_ok-write_line-in-NullBulk-clause-written :
     goal.write_nested-returns-in_ok-write_line-in-NullBulk-clause-written
 write_nested-returns-in_ok-write_line-in-NullBulk-clause-written g t c =
-    adds _ (null_bulk_text c.args.protocol c.args.level _ (shaped c.in-NullBulk.is null_bulk_is)
-    c.if-is_foreign.ensures) c.in_ok-write_line-in-NullBulk.ensures.written
+    adds _ (null_text c.args.protocol c.args.level _ (Data Dollar) tt
+    (shaped _ c.in-NullBulk.is rolls-NullBulk) c.if-is_foreign.ensures)
+    c.in_ok-write_line-in-NullBulk.ensures.written
 
 pub write_nested-returns-in_ok-write_line-in-NullArray-clause-written :
     goal.write_nested-returns-in_ok-write_line-in-NullArray-clause-written
 write_nested-returns-in_ok-write_line-in-NullArray-clause-written g t c =
-    adds _ (null_array_text c.args.protocol c.args.level _ (shaped c.in-NullArray.is null_array_is)
-    c.if-is_foreign.ensures) c.in_ok-write_line-in-NullArray.ensures.written
+    adds _ (null_text c.args.protocol c.args.level _ (Aggregate Star) tt
+    (shaped _ c.in-NullArray.is rolls-NullArray) c.if-is_foreign.ensures)
+    c.in_ok-write_line-in-NullArray.ensures.written
 
 -- ---- replies for which there is no room
 
@@ -276,7 +282,8 @@ pub write_nested-returns-in_err-write_line-in-Null-clause-full :
     goal.write_nested-returns-in_err-write_line-in-Null-clause-full
 write_nested-returns-in_err-write_line-in-Null-clause-full g t c =
     text_err c.args.protocol c.args.level _ c.args.into.now _ _
-    (line_text c.args.protocol c.args.level _ Underscore [] (shaped c.in-Null.is null_is, refl))
+    (line_text c.args.protocol c.args.level _ Underscore []
+    (shaped _ c.in-Null.is rolls-Null, refl))
     c.in_err-write_line-in-Null.ensures.full
 
 pub write_nested-returns-in_err-write_line-in-Boolean-clause-full :
@@ -284,14 +291,14 @@ pub write_nested-returns-in_err-write_line-in-Boolean-clause-full :
 write_nested-returns-in_err-write_line-in-Boolean-clause-full g t c =
     text_err c.args.protocol c.args.level _ c.args.into.now _ _
     (line_text c.args.protocol c.args.level _ Hash _
-    (_, shaped c.in-Boolean.is (boolean_is _), c.boolean_text.ensures))
+    (_, shaped _ c.in-Boolean.is (rolls-Boolean _), c.boolean_text.ensures))
     c.in_err-write_line-in-Boolean.ensures.full
 
 pub write_nested-returns-in_err-write_data-in-Bulk-clause-full :
     goal.write_nested-returns-in_err-write_data-in-Bulk-clause-full
 write_nested-returns-in_err-write_data-in-Bulk-clause-full g t c =
     text_err c.args.protocol c.args.level _ c.args.into.now _ _
-    (data_text c.args.protocol c.args.level _ Dollar _ (shaped c.in-Bulk.is (bulk_is _)) tt
+    (data_text c.args.protocol c.args.level _ Dollar _ (shaped _ c.in-Bulk.is (rolls-Bulk _)) tt
     (search rules)) c.in_err-write_data-in-Bulk.ensures.full
 
 pub write_nested-returns-in_err-write_data-in-BulkError-clause-full :
@@ -299,42 +306,44 @@ pub write_nested-returns-in_err-write_data-in-BulkError-clause-full :
 write_nested-returns-in_err-write_data-in-BulkError-clause-full g t c =
     text_err c.args.protocol c.args.level _ c.args.into.now _ _
     (data_text c.args.protocol c.args.level _ Exclamation _
-    (shaped c.in-BulkError.is (bulk_error_is _)) tt (search rules))
+    (shaped _ c.in-BulkError.is (rolls-BulkError _)) tt (search rules))
     c.in_err-write_data-in-BulkError.ensures.full
 
 pub write_nested-returns-in_err-write_line-in-NullBulk-clause-full :
     goal.write_nested-returns-in_err-write_line-in-NullBulk-clause-full
 write_nested-returns-in_err-write_line-in-NullBulk-clause-full g t c =
     text_err c.args.protocol c.args.level _ c.args.into.now _ _
-    (null_bulk_text c.args.protocol c.args.level _ (shaped c.in-NullBulk.is null_bulk_is))
+    (null_text c.args.protocol c.args.level _ (Data Dollar) tt
+    (shaped _ c.in-NullBulk.is rolls-NullBulk))
     c.in_err-write_line-in-NullBulk.ensures.full
 
 pub write_nested-returns-in_err-write_line-in-NullArray-clause-full :
     goal.write_nested-returns-in_err-write_line-in-NullArray-clause-full
 write_nested-returns-in_err-write_line-in-NullArray-clause-full g t c =
     text_err c.args.protocol c.args.level _ c.args.into.now _ _
-    (null_array_text c.args.protocol c.args.level _ (shaped c.in-NullArray.is null_array_is))
+    (null_text c.args.protocol c.args.level _ (Aggregate Star) tt
+    (shaped _ c.in-NullArray.is rolls-NullArray))
     c.in_err-write_line-in-NullArray.ensures.full
 
 pub write_nested-returns-in-Simple-clause-full : goal.write_nested-returns-in-Simple-clause-full
 write_nested-returns-in-Simple-clause-full g t c =
     valid_full c.args.protocol c.args.level _ c.args.into.now _ _
     (λ valid. line_text c.args.protocol c.args.level _ Plus _
-    (_, shaped c.in-Simple.is (simple_is _), shown_is (AllByRecursion InLine) _ valid))
+    (_, shaped _ c.in-Simple.is (rolls-Simple _), shown_is (AllByRecursion InLine) _ valid))
     c.write_text.ensures.full
 
 pub write_nested-returns-in-Error-clause-full : goal.write_nested-returns-in-Error-clause-full
 write_nested-returns-in-Error-clause-full g t c =
     valid_full c.args.protocol c.args.level _ c.args.into.now _ _
     (λ valid. line_text c.args.protocol c.args.level _ Minus _
-    (_, shaped c.in-Error.is (error_is _), shown_is (AllByRecursion InLine) _ valid))
+    (_, shaped _ c.in-Error.is (rolls-Error _), shown_is (AllByRecursion InLine) _ valid))
     c.write_text-in-Error.ensures.full
 
 pub write_nested-returns-in-Double-clause-full : goal.write_nested-returns-in-Double-clause-full
 write_nested-returns-in-Double-clause-full g t c =
     valid_full c.args.protocol c.args.level _ c.args.into.now _ _
     (λ valid. line_text c.args.protocol c.args.level _ Comma _
-    (_, shaped c.in-Double.is (double_is _), shown_is IsDouble _ valid))
+    (_, shaped _ c.in-Double.is (rolls-Double _), shown_is IsDouble _ valid))
     c.write_double.ensures.full
 
 pub write_nested-returns-in-BigNumber-clause-full :
@@ -342,11 +351,12 @@ pub write_nested-returns-in-BigNumber-clause-full :
 write_nested-returns-in-BigNumber-clause-full g t c =
     valid_full c.args.protocol c.args.level _ c.args.into.now _ _
     (λ valid. line_text c.args.protocol c.args.level _ Parenthesis _
-    (_, shaped c.in-BigNumber.is (big_number_is _), shown_is IsBigNumber _ valid))
+    (_, shaped _ c.in-BigNumber.is (rolls-BigNumber _), shown_is IsBigNumber _ valid))
     c.write_big_number.ensures.full
 
 pub write_nested-returns-in-Verbatim-clause-full : goal.write_nested-returns-in-Verbatim-clause-full
 write_nested-returns-in-Verbatim-clause-full g t c =
     valid_full c.args.protocol c.args.level _ c.args.into.now _ _
     (λ valid. data_text c.args.protocol c.args.level _ Equals _
-    (shaped c.in-Verbatim.is (verbatim_is _)) valid (search rules)) c.write_verbatim.ensures.full
+    (shaped _ c.in-Verbatim.is (rolls-Verbatim _)) valid (search rules))
+    c.write_verbatim.ensures.full
