@@ -62,8 +62,3 @@ fn token<'i>(input: &mut &'i [u8]) -> ModalResult<&'i [u8]> {
     let signs = |b: u8| b.is_ascii_alphanumeric() || b"!#$%&'*+-.^_`|~".contains(&b);
     take_while(1.., signs).parse_next(input)
 }
-
-/// Returns the head of a text, or the offset of the error.
-fn read<'i>(text: &'i [u8]) -> Result<Head<'i>, usize> {
-    head.parse(text).map_err(|error| error.offset())
-}

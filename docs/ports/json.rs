@@ -98,8 +98,3 @@ fn unit(input: &mut &str) -> ModalResult<u32> {
         .try_map(|digits: &str| u32::from_str_radix(digits, 16))
         .parse_next(input)
 }
-
-/// Returns the value of a text, or the offset of the error.
-fn read(text: &str) -> Result<Json, usize> {
-    value.parse(text).map_err(|error| error.offset())
-}

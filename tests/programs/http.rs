@@ -67,15 +67,6 @@ fn token<'i>(input: &mut &'i [u8]) -> ModalResult<&'i [u8]> {
     take_while(1.., signs).parse_next(input)
 }
 
-/// Returns the head of a text, or the offset of the error.
-fn read<'i>(alloc: Global, text: &'i [u8]) -> Result<Head<'i>, usize> {
-    match FuncWith(alloc, read_head).parse(text) {
-        Ok(head) => Ok(head),
-        Err(ParseFault::Invalid(error)) => Err(error.offset()),
-        Err(ParseFault::Incomplete(_)) => Err(text.len()),
-    }
-}
-
 // By RFC 9112, sections 2.3, 3 and 5.1.
 #[test]
 fn heads(rt: HostRuntime) {
@@ -112,4 +103,13 @@ fn errors_of_heads(rt: HostRuntime) {
 fn has_fields(head: &Head<'_>, fields: &[(&[u8], &[u8])]) -> bool {
     let mut both = head.fields.iter().zip(fields);
     head.fields.len() == fields.len() && both.all(|(it, other)| (it.name, it.value) == *other)
+}
+
+/// Returns the head of a text, or the offset of the error.
+fn read<'i>(alloc: Global, text: &'i [u8]) -> Result<Head<'i>, usize> {
+    match FuncWith(alloc, read_head).parse(text) {
+        Ok(head) => Ok(head),
+        Err(ParseFault::Invalid(error)) => Err(error.offset()),
+        Err(ParseFault::Incomplete(_)) => Err(text.len()),
+    }
 }

@@ -131,15 +131,6 @@ fn number(input: &mut &str) -> ModalResult<f64> {
         .parse_next(input)
 }
 
-/// Returns the value of a text, or the offset of the error.
-fn read(alloc: Global, text: &str) -> Result<Json, usize> {
-    match FuncWith((alloc, 8), value).parse(text) {
-        Ok(value) => Ok(value),
-        Err(ParseFault::Invalid(error)) => Err(error.offset()),
-        Err(ParseFault::Incomplete(_)) => Err(text.len()),
-    }
-}
-
 // As Python's `json.loads` reads it.
 #[test]
 fn values(rt: HostRuntime) {
@@ -198,5 +189,14 @@ fn errors_of_values(rt: HostRuntime) {
     }
     for text in ["01", "+1", "1e", "inf", "[[[[[[[[[1]]]]]]]]]"] {
         assert!(rt; read(rt.alloc(), text).is_err());
+    }
+}
+
+/// Returns the value of a text, or the offset of the error.
+fn read(alloc: Global, text: &str) -> Result<Json, usize> {
+    match FuncWith((alloc, 8), value).parse(text) {
+        Ok(value) => Ok(value),
+        Err(ParseFault::Invalid(error)) => Err(error.offset()),
+        Err(ParseFault::Incomplete(_)) => Err(text.len()),
     }
 }
