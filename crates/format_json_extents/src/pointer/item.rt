@@ -19,13 +19,7 @@ fn index_of(token: &[u8]) -> Option<u64>
 {
     let mut rest = token;
     match read_number(&mut rest) {
-        Some(_) => {
-            if rest.is_empty() {
-                as_u64(token)
-            } else {
-                None
-            }
-        }
+        Some(_) => { if rest.is_empty() { as_u64(token) } else { None } }
         None => None,
     }
 }

@@ -39,6 +39,11 @@ pub returns-in_ok-name-clause-sought : goal.returns-in_ok-name-clause-sought
 returns-in_ok-name-clause-sought c =
     let gap = c.skip_whitespace-start.ensures.stands in
     subst (λ k. IsSought k c.in_ok-name.name.0 c.args.index c.args.token.now c.args.bytes.now)
-    (sym c.if-keyed.true)
-    (gap.text, c.skip_whitespace-start.result.now, c.in_ok-name.name.1.now, gap.is, gap.splits,
-    c.in_ok-name.ensures)
+    (sym c.if-keyed.true) (
+      gap.text,
+      c.skip_whitespace-start.result.now,
+      c.in_ok-name.name.1.now,
+      gap.is,
+      gap.splits,
+      c.in_ok-name.ensures,
+    )
