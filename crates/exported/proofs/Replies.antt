@@ -16,13 +16,21 @@ use Rattle.format_resp.specs.declared.extent.Invalid.{Invalid}
 use Rattle.format_resp.specs.declared.extent.Reason.{Reason}
 use Rattle.format_resp.specs.declared.extent.Reason.TheVariants.{Malformed, TooDeep, TooLarge}
 use Rattle.format_resp.specs.declared.reply.Protocol.{Protocol}
-use Rattle.format_resp.specs.declared.reply.Reply.{out-Reply}
+use Rattle.format_resp.specs.declared.reply.Reply.{out-Reply, roll-Reply}
+use Rattle.format_resp.specs.declared.reply.Reply.TheViews.{out-roll-Reply}
 use Rattle.exported.specs.Resp.{Found, HasFields, HasList, IsIncomplete, IsReply, IsShown}
 use Rattle.exported.specs.Resp.{IsCodeOf, IsShownBy, NoReply, Rejects, ShowsReply, TellsReply}
 use Rattle.exported.specs.Resp.{no_reply}
 use Rattle.exported.specs.Span.{EndsWith, StandsAt}
 use Rattle.exported.specs.declared.resp.Reply.{Reply}
 use Rattle.exported.specs.declared.span.Span.{Span}
+
+-- a reply that is equal to a constructed one has its kind
+pub opened : (kind : Opened Global) {reply form : Found} → reply ≡ form
+    → roll-Reply (Bor (List ℕ)) Global kind ≡ form → out-Reply (Bor (List ℕ)) Global reply ≡ kind
+opened kind is rolls =
+    ap (out-Reply (Bor (List ℕ)) Global) (is ∙ sym rolls)
+    ∙ out-roll-Reply (Bor (List ℕ)) Global kind
 
 -- ---- the bytes after the first line feed
 

@@ -1,17 +1,21 @@
-use Rattle.std.proofs.Common.{◌∙◌, ap, arith, refl, rules}
-use Rattle.format_resp.proofs.Made.{array_is, attributed_is, big_number_is, boolean_is}
-use Rattle.format_resp.proofs.Made.{bulk_error_is, bulk_is, double_is, error_is, integer_is}
-use Rattle.format_resp.proofs.Made.{kind_of, map_is, null_array_is, null_bulk_is, null_is, push_is}
-use Rattle.format_resp.proofs.Made.{set_is, simple_is, verbatim_is}
+use Rattle.std.proofs.Common.{arith, refl, rules}
 use Rattle.format_resp.specs.declared.reply.Reply.TheOpen.{Reply-F}
-use Rattle.exported.proofs.Replies.{list_shown, shown_by}
+use Rattle.format_resp.specs.declared.reply.Reply.TheViews.{rolls-Array, rolls-Attributed}
+use Rattle.format_resp.specs.declared.reply.Reply.TheViews.{rolls-BigNumber}
+use Rattle.format_resp.specs.declared.reply.Reply.TheViews.{rolls-Boolean, rolls-Bulk}
+use Rattle.format_resp.specs.declared.reply.Reply.TheViews.{rolls-BulkError, rolls-Double}
+use Rattle.format_resp.specs.declared.reply.Reply.TheViews.{rolls-Error, rolls-Integer, rolls-Map}
+use Rattle.format_resp.specs.declared.reply.Reply.TheViews.{rolls-Null, rolls-NullArray}
+use Rattle.format_resp.specs.declared.reply.Reply.TheViews.{rolls-NullBulk, rolls-Push, rolls-Set}
+use Rattle.format_resp.specs.declared.reply.Reply.TheViews.{rolls-Simple, rolls-Verbatim}
+use Rattle.exported.proofs.Replies.{list_shown, opened, shown_by}
 use Rattle.exported.proofs.resp.places.reply_at.Goals as goal
 
 pub returns-in-Simple-clause-shown : goal.returns-in-Simple-clause-shown
 returns-in-Simple-clause-shown c protocol level rest is left =
     shown_by protocol level c.args.bytes.now (Reply-F.Simple c.in-Simple.text) c.args.found.now
     rest _
-    (ap kind_of c.in-Simple.is ∙ simple_is c.in-Simple.text)
+    (opened _ c.in-Simple.is (rolls-Simple c.in-Simple.text))
     (λ at. c.line_at.ensures.text c.args.bytes.now c.in-Simple.text.now rest at refl) is
 
 pub returns-in-Simple-clause-length : goal.returns-in-Simple-clause-length
@@ -23,7 +27,7 @@ returns-in-Simple-clause-length c within = (
 pub returns-in-Error-clause-shown : goal.returns-in-Error-clause-shown
 returns-in-Error-clause-shown c protocol level rest is left =
     shown_by protocol level c.args.bytes.now (Reply-F.Error c.in-Error.text) c.args.found.now rest _
-    (ap kind_of c.in-Error.is ∙ error_is c.in-Error.text)
+    (opened _ c.in-Error.is (rolls-Error c.in-Error.text))
     (λ at. c.line_at-in-Error.ensures.text c.args.bytes.now c.in-Error.text.now rest at refl) is
 
 pub returns-in-Error-clause-length : goal.returns-in-Error-clause-length
@@ -36,7 +40,7 @@ pub returns-in-Integer-clause-shown : goal.returns-in-Integer-clause-shown
 returns-in-Integer-clause-shown c protocol level rest is left =
     shown_by protocol level c.args.bytes.now (Reply-F.Integer c.in-Integer.number)
     c.args.found.now rest _
-    (ap kind_of c.in-Integer.is ∙ integer_is c.in-Integer.number)
+    (opened _ c.in-Integer.is (rolls-Integer c.in-Integer.number))
     (λ at. (
       record {
         is_kind = c.number_at.ensures.number.0.is_kind;
@@ -55,7 +59,7 @@ returns-in-Integer-clause-length c within = (
 pub returns-in-Bulk-clause-shown : goal.returns-in-Bulk-clause-shown
 returns-in-Bulk-clause-shown c protocol level rest is left =
     shown_by protocol level c.args.bytes.now (Reply-F.Bulk c.in-Bulk.text) c.args.found.now rest _
-    (ap kind_of c.in-Bulk.is ∙ bulk_is c.in-Bulk.text)
+    (opened _ c.in-Bulk.is (rolls-Bulk c.in-Bulk.text))
     (λ at. c.string_at.ensures.text c.in-Bulk.text.now rest at refl) is
 
 pub returns-in-Bulk-clause-length : goal.returns-in-Bulk-clause-length
@@ -67,7 +71,7 @@ returns-in-Bulk-clause-length c within = (
 pub returns-in-NullBulk-clause-shown : goal.returns-in-NullBulk-clause-shown
 returns-in-NullBulk-clause-shown c protocol level rest is left =
     shown_by protocol level c.args.bytes.now Reply-F.NullBulk c.args.found.now rest _
-    (ap kind_of c.in-NullBulk.is ∙ null_bulk_is)
+    (opened _ c.in-NullBulk.is rolls-NullBulk)
     (λ at. c.number_at-in-NullBulk.ensures.number) is
 
 pub returns-in-NullBulk-clause-length : goal.returns-in-NullBulk-clause-length
@@ -79,7 +83,7 @@ returns-in-NullBulk-clause-length c within = (
 pub returns-in-Array-clause-shown : goal.returns-in-Array-clause-shown
 returns-in-Array-clause-shown c protocol level rest is left =
     shown_by protocol level c.args.bytes.now (Reply-F.Array c.in-Array.list) c.args.found.now rest _
-    (ap kind_of c.in-Array.is ∙ array_is c.in-Array.list)
+    (opened _ c.in-Array.is (rolls-Array c.in-Array.list))
     (list_shown protocol level c.args.bytes.now 5 c.args.left _ c.in-Array.list.items rest _
     c.list_at.ensures.list (omega (arith, c.len.ensures, c.in-Array.list.ok)) left) is
 
@@ -89,7 +93,7 @@ returns-in-Array-clause-length c = c.list_at.ensures.length
 pub returns-in-NullArray-clause-shown : goal.returns-in-NullArray-clause-shown
 returns-in-NullArray-clause-shown c protocol level rest is left =
     shown_by protocol level c.args.bytes.now Reply-F.NullArray c.args.found.now rest _
-    (ap kind_of c.in-NullArray.is ∙ null_array_is)
+    (opened _ c.in-NullArray.is rolls-NullArray)
     (λ at. c.number_at-in-NullArray.ensures.number) is
 
 pub returns-in-NullArray-clause-length : goal.returns-in-NullArray-clause-length
@@ -101,7 +105,7 @@ returns-in-NullArray-clause-length c within = (
 pub returns-in-Null-clause-shown : goal.returns-in-Null-clause-shown
 returns-in-Null-clause-shown c protocol level rest is left =
     shown_by protocol level c.args.bytes.now Reply-F.Null c.args.found.now rest _
-    (ap kind_of c.in-Null.is ∙ null_is)
+    (opened _ c.in-Null.is rolls-Null)
     (λ at. c.number_at-in-Null.ensures.number) is
 
 pub returns-in-Null-clause-length : goal.returns-in-Null-clause-length
@@ -114,7 +118,7 @@ pub returns-in-Boolean-clause-shown : goal.returns-in-Boolean-clause-shown
 returns-in-Boolean-clause-shown c protocol level rest is left =
     shown_by protocol level c.args.bytes.now (Reply-F.Boolean c.in-Boolean.boolean)
     c.args.found.now rest _
-    (ap kind_of c.in-Boolean.is ∙ boolean_is c.in-Boolean.boolean)
+    (opened _ c.in-Boolean.is (rolls-Boolean c.in-Boolean.boolean))
     (λ at. (
       record {
         is_kind = c.number_at-in-Boolean.ensures.number.0.is_kind;
@@ -134,7 +138,7 @@ pub returns-in-Double-clause-shown : goal.returns-in-Double-clause-shown
 returns-in-Double-clause-shown c protocol level rest is left =
     shown_by protocol level c.args.bytes.now (Reply-F.Double c.in-Double.text) c.args.found.now
     rest _
-    (ap kind_of c.in-Double.is ∙ double_is c.in-Double.text)
+    (opened _ c.in-Double.is (rolls-Double c.in-Double.text))
     (λ at. c.line_at-in-Double.ensures.text c.args.bytes.now c.in-Double.text.now rest at refl) is
 
 pub returns-in-Double-clause-length : goal.returns-in-Double-clause-length
@@ -147,7 +151,7 @@ pub returns-in-BigNumber-clause-shown : goal.returns-in-BigNumber-clause-shown
 returns-in-BigNumber-clause-shown c protocol level rest is left =
     shown_by protocol level c.args.bytes.now (Reply-F.BigNumber c.in-BigNumber.text)
     c.args.found.now rest _
-    (ap kind_of c.in-BigNumber.is ∙ big_number_is c.in-BigNumber.text)
+    (opened _ c.in-BigNumber.is (rolls-BigNumber c.in-BigNumber.text))
     (λ at. c.line_at-in-BigNumber.ensures.text c.args.bytes.now c.in-BigNumber.text.now rest at
     refl) is
 
@@ -161,7 +165,7 @@ pub returns-in-BulkError-clause-shown : goal.returns-in-BulkError-clause-shown
 returns-in-BulkError-clause-shown c protocol level rest is left =
     shown_by protocol level c.args.bytes.now (Reply-F.BulkError c.in-BulkError.text)
     c.args.found.now rest _
-    (ap kind_of c.in-BulkError.is ∙ bulk_error_is c.in-BulkError.text)
+    (opened _ c.in-BulkError.is (rolls-BulkError c.in-BulkError.text))
     (λ at. c.string_at-in-BulkError.ensures.text c.in-BulkError.text.now rest at refl) is
 
 pub returns-in-BulkError-clause-length : goal.returns-in-BulkError-clause-length
@@ -174,7 +178,7 @@ pub returns-in-Verbatim-clause-shown : goal.returns-in-Verbatim-clause-shown
 returns-in-Verbatim-clause-shown c protocol level rest is left =
     shown_by protocol level c.args.bytes.now (Reply-F.Verbatim c.in-Verbatim.text)
     c.args.found.now rest _
-    (ap kind_of c.in-Verbatim.is ∙ verbatim_is c.in-Verbatim.text)
+    (opened _ c.in-Verbatim.is (rolls-Verbatim c.in-Verbatim.text))
     (λ at. c.string_at-in-Verbatim.ensures.text c.in-Verbatim.text.now rest at refl) is
 
 pub returns-in-Verbatim-clause-length : goal.returns-in-Verbatim-clause-length
@@ -186,7 +190,7 @@ returns-in-Verbatim-clause-length c within = (
 pub returns-in-Map-clause-shown : goal.returns-in-Map-clause-shown
 returns-in-Map-clause-shown c protocol level rest is left =
     shown_by protocol level c.args.bytes.now (Reply-F.Map c.in-Map.list) c.args.found.now rest _
-    (ap kind_of c.in-Map.is ∙ map_is c.in-Map.list)
+    (opened _ c.in-Map.is (rolls-Map c.in-Map.list))
     (list_shown protocol level c.args.bytes.now 13 c.args.left _ c.in-Map.list.items rest _
     c.list_at-in-Map.ensures.list (omega (arith, c.len-in-Map.ensures, c.in-Map.list.ok)) left) is
 
@@ -196,7 +200,7 @@ returns-in-Map-clause-length c = c.list_at-in-Map.ensures.length
 pub returns-in-Set-clause-shown : goal.returns-in-Set-clause-shown
 returns-in-Set-clause-shown c protocol level rest is left =
     shown_by protocol level c.args.bytes.now (Reply-F.Set c.in-Set.list) c.args.found.now rest _
-    (ap kind_of c.in-Set.is ∙ set_is c.in-Set.list)
+    (opened _ c.in-Set.is (rolls-Set c.in-Set.list))
     (list_shown protocol level c.args.bytes.now 14 c.args.left _ c.in-Set.list.items rest _
     c.list_at-in-Set.ensures.list (omega (arith, c.len-in-Set.ensures, c.in-Set.list.ok)) left) is
 
@@ -206,7 +210,7 @@ returns-in-Set-clause-length c = c.list_at-in-Set.ensures.length
 pub returns-in-Push-clause-shown : goal.returns-in-Push-clause-shown
 returns-in-Push-clause-shown c protocol level rest is left =
     shown_by protocol level c.args.bytes.now (Reply-F.Push c.in-Push.list) c.args.found.now rest _
-    (ap kind_of c.in-Push.is ∙ push_is c.in-Push.list)
+    (opened _ c.in-Push.is (rolls-Push c.in-Push.list))
     (list_shown protocol level c.args.bytes.now 15 c.args.left _ c.in-Push.list.items rest _
     c.list_at-in-Push.ensures.list (omega (arith, c.len-in-Push.ensures, c.in-Push.list.ok))
     left) is
@@ -218,7 +222,7 @@ pub returns-in-Attributed-clause-shown : goal.returns-in-Attributed-clause-shown
 returns-in-Attributed-clause-shown c protocol level rest is left =
     shown_by protocol level c.args.bytes.now (Reply-F.Attributed c.in-Attributed.list)
     c.args.found.now rest _
-    (ap kind_of c.in-Attributed.is ∙ attributed_is c.in-Attributed.list)
+    (opened _ c.in-Attributed.is (rolls-Attributed c.in-Attributed.list))
     (list_shown protocol level c.args.bytes.now 16 c.args.left _ c.in-Attributed.list.items rest _
     c.list_at-in-Attributed.ensures.list
     (omega (arith, c.len-in-Attributed.ensures, c.in-Attributed.list.ok)) left) is
