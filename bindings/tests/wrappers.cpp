@@ -131,6 +131,10 @@ static void http()
     pergidau_http_head_state state{}, other{};
     EXPECT(*pergidau::http_head_extent(state, request) == request.size());
     EXPECT(*pergidau::http_response_head_extent(other, response) == response.size());
+    EXPECT(pergidau::http_field_lines("A: b\r\n\r\n", fields)->fields == 1);
+    EXPECT(pergidau::http_field_lines("A: b\r\n", fields).code == PERGIDAU_INCOMPLETE);
+    pergidau_http_head_state trailers{};
+    EXPECT(*pergidau::http_field_lines_extent(trailers, "A: b\r\n\r\n") == 8);
     pergidau_chunked_state body{};
     EXPECT(text(chunks, pergidau::http_chunked(body, chunks)->span) == "a");
 }
