@@ -325,9 +325,11 @@ pub trait Parser<I: Stream, O, E: ParserError<I>>: Sized {
         Void::new(self)
     }
 
-    /// Converts the output with `From`.
+    /// Converts the output with `Into`.
     #[inline(always)]
-    final fn output_into<O2: From<O>>(self) -> OutputInto<Self, I, O, O2, E>
+    final fn output_into<O2>(self) -> OutputInto<Self, I, O, O2, E>
+    where
+        O: Into<O2>,
         ensures { result.parser ≡ self }
     {
         OutputInto::new(self)
@@ -535,9 +537,11 @@ pub trait Parser<I: Stream, O, E: ParserError<I>>: Sized {
         CompleteErr::new(self)
     }
 
-    /// Converts errors with `From`.
+    /// Converts errors with `Into`.
     #[inline(always)]
-    final fn err_into<E2: From<E>>(self) -> ErrInto<Self, I, O, E, E2>
+    final fn err_into<E2>(self) -> ErrInto<Self, I, O, E, E2>
+    where
+        E: Into<E2>,
         ensures { result.parser ≡ self }
     {
         ErrInto::new(self)

@@ -35,7 +35,7 @@ impl<F, I, O, E, E2> ErrInto<F, I, O, E, E2> {
     }
 }
 
-impl<F: Parser<I, O, E>, I: Stream, O, E: ParserError<I>, E2: ParserError<I> + From<E>> Parser<
+impl<F: Parser<I, O, E>, I: Stream, O, E: ParserError<I> + Into<E2>, E2: ParserError<I>> Parser<
     I,
     O,
     E2,
@@ -46,27 +46,27 @@ impl<F: Parser<I, O, E>, I: Stream, O, E: ParserError<I>, E2: ParserError<I> + F
 
     ghost state = { λ s. F.state s.parser };
 
-    ghost does = { ErrIntoDoes E.form E.kind E2.kind E2.from_gives F.does };
+    ghost does = { ErrIntoDoes E.form E.kind E2.kind E.converts F.does };
 
     ghost terms = { record {
-      premise = F.terms.premise × ConvertsKinds E.kind E2.kind E2.from_gives;
+      premise = F.terms.premise × ConvertsKinds E.kind E2.kind E.converts;
       stable = F.terms.stable × (E.form ≡ modal);
       alike = F.terms.alike;
       claim = λ s. record {
-        premise = (F.terms.claim s).premise × SameKinds E.kind E2.kind E2.from_gives;
+        premise = (F.terms.claim s).premise × SameKinds E.kind E2.kind E.converts;
         backtracks = (F.terms.claim s).backtracks;
         spares_memory =
-            (F.terms.claim s).spares_memory × ConvertsSparing E.kind E2.kind E2.from_gives;
+            (F.terms.claim s).spares_memory × ConvertsSparing E.kind E2.kind E.converts;
         consumes = (F.terms.claim s).consumes;
         grammar = (F.terms.claim s).grammar;
       };
     } };
 
     ghost lawful = { record {
-      law = λ is. err_into_law E.form E.kind E2.kind E2.from_gives is.1
+      law = λ is. err_into_law E.form E.kind E2.kind E.converts is.1
           (F.lawful.law is.0);
       claimed = λ s. record {
-        projects = λ at is. err_into_projects E.form E.kind E2.kind E2.from_gives is.1 (λ m. m.1)
+        projects = λ at is. err_into_projects E.form E.kind E2.kind E.converts is.1 (λ m. m.1)
             (projects_as (λ b. b) (λ m. m.0)
             ((F.lawful.claimed s).projects (formed E.form at) is.0));
         takes = λ is some. (F.lawful.claimed s).takes is.0 some;
@@ -77,7 +77,7 @@ impl<F: Parser<I, O, E>, I: Stream, O, E: ParserError<I>, E2: ParserError<I> + F
     fn parse_next(&mut self, input: &mut I) -> Result<O, E2> {
         match self.parser.parse_next(input) {
             Ok(output) => Ok(output),
-            Err(error) => Err(E2::from(error)),
+            Err(error) => Err(error.into()),
         }
     }
 }

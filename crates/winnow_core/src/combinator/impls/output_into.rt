@@ -35,7 +35,7 @@ impl<F, I, O, O2, E> OutputInto<F, I, O, O2, E> {
     }
 }
 
-impl<F: Parser<I, O, E>, I: Stream, O, O2: From<O>, E: ParserError<I>> Parser<I, O2, E>
+impl<F: Parser<I, O, E>, I: Stream, O: Into<O2>, O2, E: ParserError<I>> Parser<I, O2, E>
     for OutputInto<F, I, O, O2, E> {
     ghost can_parse = { λ s. F.can_parse s.parser };
 
@@ -43,27 +43,27 @@ impl<F: Parser<I, O, E>, I: Stream, O, O2: From<O>, E: ParserError<I>> Parser<I,
 
     ghost state = { λ s. F.state s.parser };
 
-    ghost does = { OutputIntoDoes O2.from_gives F.does };
+    ghost does = { OutputIntoDoes O.converts F.does };
 
     ghost terms = { record {
       premise = F.terms.premise;
       stable = F.terms.stable;
-      alike = OutputsMadeAlike F.terms.alike O2.from_gives;
+      alike = OutputsMadeAlike F.terms.alike O.converts;
       claim = λ s. record {
         premise = (F.terms.claim s).premise;
         backtracks = (F.terms.claim s).backtracks;
         spares_memory = (F.terms.claim s).spares_memory;
         consumes = (F.terms.claim s).consumes;
-        grammar = Made (λ (_ : Unit {0}) o u. O2.from_gives o u) tt (F.terms.claim s).grammar;
+        grammar = Made (λ (_ : Unit {0}) o u. O.converts o u) tt (F.terms.claim s).grammar;
       };
     } };
 
     ghost lawful = { record {
-      law = λ is. output_into_law O2.from_gives (F.lawful.law is);
+      law = λ is. output_into_law O.converts (F.lawful.law is);
       claimed = λ s. record {
         projects = λ at is. output_into_projects ((F.lawful.claimed s).projects at is)
-            O2.from_gives;
-        takes = λ is some. made_of_takes (λ (_ : Unit {0}) o u. O2.from_gives o u) tt
+            O.converts;
+        takes = λ is some. made_of_takes (λ (_ : Unit {0}) o u. O.converts o u) tt
             ((F.lawful.claimed s).takes is some);
       };
     } };
@@ -71,6 +71,6 @@ impl<F: Parser<I, O, E>, I: Stream, O, O2: From<O>, E: ParserError<I>> Parser<I,
     #[inline]
     fn parse_next(&mut self, input: &mut I) -> Result<O2, E> {
         let output = self.parser.parse_next(input)?;
-        Ok(O2::from(output))
+        Ok(output.into())
     }
 }

@@ -16,7 +16,6 @@ use Rattle.winnow_expression.proofs.combinator.machine.expression_from.Goals as 
 
 pub returns-in_err-left-clause-ran : goal.returns-in_err-left-clause-ran
 returns-in_err-left-clause-ran g c =
-    let form = g.E.HasKind.form in
     let whole = made g.I.Stream.reading g.E.HasKind.form g.P.Parser.does g.Q.Parser.does
     g.F.FoldUnary.folds g.G.FoldUnary.folds g.H.FoldBinary.folds (record {
       before = g.met.F.FoldUnary.leaves_ends;
@@ -38,7 +37,6 @@ returns-in_err-left-clause-ran g c =
 
 pub turns-init : goal.turns-init
 turns-init g c =
-    let form = g.E.HasKind.form in
     let whole = made g.I.Stream.reading g.E.HasKind.form g.P.Parser.does g.Q.Parser.does
     g.F.FoldUnary.folds g.G.FoldUnary.folds g.H.FoldBinary.folds (record {
       before = g.met.F.FoldUnary.leaves_ends;
@@ -64,7 +62,6 @@ turns-init g c =
 
 pub returns-in_err-value-clause-ran : goal.returns-in_err-value-clause-ran
 returns-in_err-value-clause-ran g c =
-    let form = g.E.HasKind.form in
     let whole = made g.I.Stream.reading g.E.HasKind.form g.P.Parser.does g.Q.Parser.does
     g.F.FoldUnary.folds g.G.FoldUnary.folds g.H.FoldBinary.folds (record {
       before = g.met.F.FoldUnary.leaves_ends;

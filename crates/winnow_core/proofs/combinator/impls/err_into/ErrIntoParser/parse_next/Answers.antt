@@ -11,10 +11,10 @@ returns-in-Ok-clause-ran g c =
 
 pub returns-in-Err-clause-ran : goal.returns-in-Err-clause-ran
 returns-in-Err-clause-ran g c =
-    let becomes = err_into_becomes g.E.HasKind.kind g.E2.HasKind.kind g.E2.From.from_gives in
+    let becomes = err_into_becomes g.E.HasKind.kind g.E2.HasKind.kind g.E.Into.converts in
     let does = InForm g.E.HasKind.form g.F.Parser.does in
     alone_ran g.I.Stream.reading (AnyErrorDoes becomes does) g.E2.HasKind.form _ _
-    (Err (g.E2.HasKind.kind c.from.result)) _ _
+    (Err (g.E2.HasKind.kind c.into.result)) _ _
     (turned_ran g.I.Stream.reading becomes does g.E2.HasKind.form _ _ _ _
     (g.E.HasKind.kind c.in-Err.error) _ c.in-Err.ensures.ran
-    (c.in-Err.error, c.from.result, refl, search rules depth 1, refl))
+    (c.in-Err.error, c.into.result, refl, search rules depth 1, refl))
