@@ -56,8 +56,8 @@ impl Error {
     /// Returns the offset of the error in bytes. If a value does not fit the type, it is the offset
     /// of its first byte; of an unknown or repeated field, that of its name.
     ///
-    /// It is `None` if memory allocation failed, if the depth limit is too large, or for an error that
-    /// a program created itself.
+    /// It is `None` if memory allocation failed, if the depth limit is too large, or for an error
+    /// that a program created itself.
     pub fn offset(&self) -> Option<usize> {
         match &*self.0 {
             Cause::Json(diagnostic) => diagnostic.position.map(|it| it.offset),
@@ -75,8 +75,8 @@ impl Error {
         }
     }
 
-    /// Returns the error of a text that is not JSON, or that cannot be parsed for other reasons, such
-    /// as its depth. It is `None` if a value does not fit the type.
+    /// Returns the error of a text that is not JSON, or that cannot be parsed for other reasons,
+    /// such as its depth. It is `None` if a value does not fit the type.
     ///
     /// ```
     /// use pergidau::json::Expected;

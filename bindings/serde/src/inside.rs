@@ -12,11 +12,14 @@ pub(crate) struct Inside<'de, 'a> {
     next: usize,
     /// The index after the last node.
     end: usize,
+    /// Whether the visitor has seen the end.
+    is_ended: bool,
 }
 
 impl<'de, 'a> Inside<'de, 'a> {
     fn of(whole: Deserializer<'de, 'a>) -> Inside<'de, 'a> {
-        Inside { whole, last: whole, next: whole.index + 1, end: whole.node().next }
+        let end = whole.node().next;
+        Inside { whole, last: whole, next: whole.index + 1, end, is_ended: false }
     }
 
     /// Gives a visitor the elements of an array.
@@ -40,19 +43,18 @@ impl<'de, 'a> Inside<'de, 'a> {
     }
 
     /// Returns the result of a visitor, which must have read everything. Its error is at the last
-    /// element or name that it read, or, if it read everything, at the whole.
+    /// element or name that it read, or, if it has seen the end, at the whole.
     fn ended<T>(
         mut self,
         found: Result<T, Error>,
         nodes_each: usize,
         expected: &dyn de::Expected,
     ) -> Result<T, Error> {
-        let is_read = self.next == self.end;
         let value = found.map_err(|error| {
-            let at = if is_read { self.whole } else { self.last };
+            let at = if self.is_ended { self.whole } else { self.last };
             error.at(at.offset())
         })?;
-        if is_read {
+        if self.next == self.end {
             return Ok(value);
         }
         let first = Deserializer { index: self.next, ..self.whole };
@@ -68,6 +70,7 @@ impl<'de, 'a> Inside<'de, 'a> {
     /// Returns the next node.
     fn advance(&mut self) -> Option<Deserializer<'de, 'a>> {
         if self.next == self.end {
+            self.is_ended = true;
             return None;
         }
         self.last = Deserializer { index: self.next, ..self.whole };
@@ -97,7 +100,8 @@ impl<'de> MapAccess<'de> for Inside<'de, '_> {
         let Some(name) = self.advance() else {
             return Ok(None);
         };
-        // The value is skipped here, so that the next call returns a name even if the value is not read.
+        // The value is skipped here, so that the next call returns a name even if the value is not
+        // read.
         self.next = self.value().node().next;
         seed.deserialize(Name(name)).map(Some).map_err(|error| error.at(name.offset()))
     }

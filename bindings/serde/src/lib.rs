@@ -1,5 +1,5 @@
-//! Deserializes JSON into types of [serde]. [`pergidau::json`] parses it, which is proved; this crate
-//! converts the parsed values, like `serde_json`.
+//! Deserializes JSON into types of [serde]. [`pergidau::json`] parses it, which is proved; this
+//! crate converts the parsed values, like `serde_json`.
 //!
 //! ```
 //! #[derive(serde::Deserialize, Debug, PartialEq)]
@@ -26,9 +26,9 @@
 //! They are those of `serde_json`, also for types with attributes of serde's derive macros:
 //!
 //! - `null` is `None` and `()`. Enums are strings, or objects with one member.
-//! - Integers convert to integer types that they fit, and to floats. Numbers with a point or an exponent,
-//!   and `-0`, convert only to floats, and to the nearest one: the standard library converts the text. A
-//!   number that is too large for a float is an error, also if it is an integer.
+//! - Integers convert to integer types that they fit, and to floats. Numbers with a point or an
+//!   exponent, and `-0`, convert only to floats (`-0` also to `i128`), and to the nearest one: the
+//!   standard library converts the text. If that is infinite, it is an error.
 //! - A string without escapes is borrowed from the text, for `&str` and `Cow<str>` with
 //!   `#[serde(borrow)]`. Others are copied.
 //! - Names of members can be keys of maps that are strings, characters, numbers, booleans or enums.
@@ -36,17 +36,18 @@
 //!
 //! # Differences from `serde_json`
 //!
-//! - The whole text is checked first, also the values that are ignored: they may not be nested deeper than
-//!   the limit, and their escapes must be characters. So an error of the text is reported before one of
-//!   the type.
+//! - The whole text is checked first, also the values that are ignored: they may not be nested
+//!   deeper than the limit, and their escapes must be characters. So an error of the text is
+//!   reported before one of the type.
 //! - Strings are always Unicode, also those that are deserialized as bytes.
-//! - `RawValue`, and numbers of arbitrary precision, which are private to `serde_json`, are not supported.
+//! - `RawValue`, and numbers of arbitrary precision, which are private to `serde_json`, are not
+//!   supported.
 //! - Errors have the offset of the value, `serde_json`'s that of the end of what it had read.
 //!
 //! # Costs
 //!
-//! All values are parsed in one pass into a list of nodes, of at most 16 bytes for each byte of the text,
-//! and each is converted from there. The time is linear in the text.
+//! All values are parsed in one pass into a list of nodes, of at most 16 bytes for each byte of the
+//! text, and each is converted from there. The time is linear in the text.
 #![cfg_attr(not(feature = "std"), no_std)]
 #![forbid(unsafe_code)]
 #![warn(missing_docs)]
@@ -71,16 +72,17 @@ use serde::Deserialize;
 #[doc = include_str!("../README.md")]
 pub struct Page;
 
-/// The depth limit of [`from_str`] and [`from_slice`], which is that of `serde_json`: arrays and objects
-/// may be nested this deep.
+/// The depth limit of [`from_str`] and [`from_slice`], which is that of `serde_json`: arrays and
+/// objects may be nested this deep.
 pub const DEFAULT_DEPTH: usize = 127;
 
-/// Deserializes a JSON text (RFC 8259), whose arrays and objects are nested at most [`DEFAULT_DEPTH`]
-/// deep. [`Document`] has other limits.
+/// Deserializes a JSON text (RFC 8259), whose arrays and objects are nested at most
+/// [`DEFAULT_DEPTH`] deep. [`Document`] has other limits.
 ///
 /// # Errors
 ///
-/// - The text is not JSON, or something follows the value: [`Error::diagnostic`] tells what was expected.
+/// - The text is not JSON, or something follows the value: [`Error::diagnostic`] tells what was
+///   expected.
 /// - A value does not fit the type: [`Error::message`] is that of serde.
 ///
 /// ```
@@ -139,11 +141,11 @@ pub struct Document<'de> {
 }
 
 impl<'de> Document<'de> {
-    /// Parses a JSON text (RFC 8259) whose arrays and objects are nested at most `max_depth` deep. The
-    /// limit may be at most [`pergidau::MAX_DEPTH`], which is 512.
+    /// Parses a JSON text (RFC 8259) whose arrays and objects are nested at most `max_depth` deep.
+    /// The limit may be at most [`pergidau::MAX_DEPTH`], which is 512.
     ///
-    /// The stack that [`deserialize`](Document::deserialize) needs for a level depends on the type; it
-    /// may be some kilobytes without optimization.
+    /// The stack that [`deserialize`](Document::deserialize) needs for a level depends on the type;
+    /// it may be some kilobytes without optimization.
     ///
     /// # Errors
     ///

@@ -245,8 +245,12 @@ impl<'de> de::Deserializer<'de> for Deserializer<'de, '_> {
         self.placed(visitor.visit_unit())
     }
 
-    same_as! { deserialize_str: deserialize_char(), deserialize_string(), deserialize_identifier(), }
+    same_as! {
+        deserialize_str: deserialize_char(), deserialize_string(), deserialize_identifier(),
+    }
     same_as! { deserialize_bytes: deserialize_byte_buf(), }
     same_as! { deserialize_unit: deserialize_unit_struct(&'static str), }
-    same_as! { deserialize_seq: deserialize_tuple(usize), deserialize_tuple_struct(&'static str, usize), }
+    same_as! {
+        deserialize_seq: deserialize_tuple(usize), deserialize_tuple_struct(&'static str, usize),
+    }
 }

@@ -1,5 +1,5 @@
-//! Rows of arrays, objects and enums, and of types of the standard library. The values follow from RFC
-//! 8259 and the documentation of serde's data model.
+//! Rows of arrays, objects and enums, and of types of the standard library. The values follow from
+//! RFC 8259 and the documentation of serde's data model.
 mod support;
 
 use serde::Deserialize;
@@ -17,10 +17,19 @@ fn strings<const N: usize>(from: [&str; N]) -> Vec<String> {
 
 #[test]
 fn arrays() {
-    accepts(&[("[]", vec![]), ("[1]", vec![1u8]), (" [ 1 , 2\n] ", vec![1, 2]), ("[0,0,0]", vec![0; 3])]);
-    rejects::<Vec<u8>>(&["[1,]", "[,]", "[1 2]", "[", "[1", "]", "[1]]", "{}", "\"a\"", "null", "1"]);
+    accepts(&[
+        ("[]", vec![]),
+        ("[1]", vec![1u8]),
+        (" [ 1 , 2\n] ", vec![1, 2]),
+        ("[0,0,0]", vec![0; 3]),
+    ]);
+    rejects::<Vec<u8>>(&[
+        "[1,]", "[,]", "[1 2]", "[", "[1", "]", "[1]]", "{}", "\"a\"", "null", "1",
+    ]);
     rejects::<Vec<u8>>(&["[256]", "[1, 2, -3]", "[null]", "[[1]]", "{\"0\": 1}"]);
-    accepts(&[("[[], [1], [[]]]", ())].map(|(text, ())| (text, serde_json::json!([[], [1], [[]]]))));
+    accepts(
+        &[("[[], [1], [[]]]", ())].map(|(text, ())| (text, serde_json::json!([[], [1], [[]]]))),
+    );
     accepts(&[("[[],[\"a\",\"b\"]]", vec![vec![], strings(["a", "b"])])]);
     accepts(&[("[1,\"a\",null]", (1u8, "a".to_string(), ()))]);
     rejects::<(u8, u8)>(&["[1]", "[1,2,3]", "[]", "1", "{}", "[1,\"2\"]", "[1,2,[]]"]);
@@ -42,12 +51,42 @@ fn maps() {
         ("{\"a\":1,\"a\":2}", map(&[("a", 2)])),
         ("{\"\\u0061\":1,\"\\n\":2}", map(&[("a", 1), ("\n", 2)])),
     ]);
-    rejects::<BTreeMap<String, u8>>(&["{\"a\":1,}", "{a:1}", "{1:1}", "{\"a\"}", "{\"a\":}", "{,}", "{", "[]"]);
-    rejects::<BTreeMap<String, u8>>(&["{\"a\":256}", "null", "{\"a\":1}}", "{\"a\" 1}", "{\"a\":1 \"b\":2}"]);
+    rejects::<BTreeMap<String, u8>>(&[
+        "{\"a\":1,}",
+        "{a:1}",
+        "{1:1}",
+        "{\"a\"}",
+        "{\"a\":}",
+        "{,}",
+        "{",
+        "[]",
+    ]);
+    rejects::<BTreeMap<String, u8>>(&[
+        "{\"a\":256}",
+        "null",
+        "{\"a\":1}}",
+        "{\"a\" 1}",
+        "{\"a\":1 \"b\":2}",
+    ]);
     accepts(&[("{\"1\":2,\"255\":0}", BTreeMap::from([(1u8, 2u8), (255, 0)]))]);
-    rejects::<BTreeMap<u8, u8>>(&["{\"256\":1}", "{\"-1\":1}", "{\"a\":1}", "{\"\":1}", "{\"1.0\":1}"]);
-    rejects::<BTreeMap<u8, u8>>(&["{\" 1\":1}", "{\"1 \":1}", "{1:1}", "{\"1e0\":1}", "{\"[1]\":1}"]);
-    accepts(&[("{\"-5\":0,\"9223372036854775807\":1}", BTreeMap::from([(-5i64, 0u8), (i64::MAX, 1)]))]);
+    rejects::<BTreeMap<u8, u8>>(&[
+        "{\"256\":1}",
+        "{\"-1\":1}",
+        "{\"a\":1}",
+        "{\"\":1}",
+        "{\"1.0\":1}",
+    ]);
+    rejects::<BTreeMap<u8, u8>>(&[
+        "{\" 1\":1}",
+        "{\"1 \":1}",
+        "{1:1}",
+        "{\"1e0\":1}",
+        "{\"[1]\":1}",
+    ]);
+    accepts(&[(
+        "{\"-5\":0,\"9223372036854775807\":1}",
+        BTreeMap::from([(-5i64, 0u8), (i64::MAX, 1)]),
+    )]);
     accepts(&[("{\"-5\":0}", BTreeMap::from([(-5i128, 0u8)]))]);
     accepts(&[("{\"18446744073709551616\":0}", BTreeMap::from([(1u128 << 64, 0u8)]))]);
     rejects::<BTreeMap<u128, u8>>(&["{\"-1\":1}", "{\"1.0\":1}", "{\"a\":1}"]);
@@ -58,8 +97,8 @@ fn maps() {
     rejects::<BTreeMap<Vec<u8>, u8>>(&["{\"a\":0}"]);
 }
 
-/// Keys that `serde_json` accepts since a later version than some distributions have, and numbers that it
-/// rejects since then.
+/// Keys that `serde_json` accepts since a later version than some distributions have, and numbers
+/// that it rejects since then.
 #[test]
 fn numbers_as_keys() {
     let found = pergidau_serde::from_str("{\"true\":1,\"false\":0}");
@@ -67,9 +106,12 @@ fn numbers_as_keys() {
     for text in ["{\"True\":1}", "{\"\":1}", "{\"tru\\u0065\":1}"] {
         assert!(pergidau_serde::from_str::<BTreeMap<bool, u8>>(text).is_err(), "{text}");
     }
-    let floats: Vec<(Float, u8)> = pergidau_serde::from_str::<Pairs<Float>>("{\"1.5\":1,\"-2e3\":2}").unwrap().0;
+    let floats: Vec<(Float, u8)> =
+        pergidau_serde::from_str::<Pairs<Float>>("{\"1.5\":1,\"-2e3\":2}").unwrap().0;
     assert_eq!(floats, [(Float(1.5), 1), (Float(-2000.0), 2)]);
-    for text in ["{\"01\":1}", "{\"+1\":1}", "{\"-0\":1}", "{\"\\u0031\":1}", "{\"1\\n\":1}", "{\"-\":1}"] {
+    for text in
+        ["{\"01\":1}", "{\"+1\":1}", "{\"-0\":1}", "{\"\\u0031\":1}", "{\"1\\n\":1}", "{\"-\":1}"]
+    {
         assert!(pergidau_serde::from_str::<BTreeMap<i8, u8>>(text).is_err(), "{text}");
     }
 }
@@ -91,7 +133,10 @@ impl<'de, K: Deserialize<'de>> Deserialize<'de> for Pairs<K> {
                 f.write_str("pairs")
             }
 
-            fn visit_map<A: serde::de::MapAccess<'de>>(mut self, mut map: A) -> Result<Pairs<K>, A::Error> {
+            fn visit_map<A: serde::de::MapAccess<'de>>(
+                mut self,
+                mut map: A,
+            ) -> Result<Pairs<K>, A::Error> {
                 while let Some(pair) = map.next_entry()? {
                     self.0.push(pair);
                 }
@@ -113,14 +158,52 @@ enum Shape {
 #[test]
 fn enums() {
     use Shape::*;
-    accepts(&[("\"Unit\"", Unit), ("{\"Unit\":null}", Unit), (" { \"Uni\\u0074\" : null } ", Unit)]);
-    accepts(&[("{\"New\":1}", New(1)), ("{\"Pair\":[1,2]}", Pair(1, 2)), ("{\"Fields\":{\"a\":1}}", Fields { a: 1 })]);
-    accepts(&[("{\"Fields\":[1]}", Fields { a: 1 }), ("{\"Fields\":{\"b\":[],\"a\":1}}", Fields { a: 1 })]);
-    rejects::<Shape>(&["{\"Unit\":1}", "{\"Unit\":{}}", "{\"Unit\":[]}", "\"unit\"", "\"\"", "null", "0", "[]"]);
+    accepts(&[
+        ("\"Unit\"", Unit),
+        ("{\"Unit\":null}", Unit),
+        (" { \"Uni\\u0074\" : null } ", Unit),
+    ]);
+    accepts(&[
+        ("{\"New\":1}", New(1)),
+        ("{\"Pair\":[1,2]}", Pair(1, 2)),
+        ("{\"Fields\":{\"a\":1}}", Fields { a: 1 }),
+    ]);
+    accepts(&[
+        ("{\"Fields\":[1]}", Fields { a: 1 }),
+        ("{\"Fields\":{\"b\":[],\"a\":1}}", Fields { a: 1 }),
+    ]);
+    rejects::<Shape>(&[
+        "{\"Unit\":1}",
+        "{\"Unit\":{}}",
+        "{\"Unit\":[]}",
+        "\"unit\"",
+        "\"\"",
+        "null",
+        "0",
+        "[]",
+    ]);
     rejects::<Shape>(&["\"New\"", "{\"New\":null}", "{\"New\":256}", "{\"New\":[1]}"]);
-    rejects::<Shape>(&["\"Pair\"", "{\"Pair\":[1]}", "{\"Pair\":[1,2,3]}", "{\"Pair\":{}}", "{\"Pair\":null}"]);
-    rejects::<Shape>(&["\"Fields\"", "{\"Fields\":{}}", "{\"Fields\":[]}", "{\"Fields\":[1,2]}", "{\"Fields\":1}"]);
-    rejects::<Shape>(&["{}", "{\"Unit\":null,\"Unit\":null}", "{\"New\":1,\"a\":2}", "{\"X\":1}", "[\"Unit\"]"]);
+    rejects::<Shape>(&[
+        "\"Pair\"",
+        "{\"Pair\":[1]}",
+        "{\"Pair\":[1,2,3]}",
+        "{\"Pair\":{}}",
+        "{\"Pair\":null}",
+    ]);
+    rejects::<Shape>(&[
+        "\"Fields\"",
+        "{\"Fields\":{}}",
+        "{\"Fields\":[]}",
+        "{\"Fields\":[1,2]}",
+        "{\"Fields\":1}",
+    ]);
+    rejects::<Shape>(&[
+        "{}",
+        "{\"Unit\":null,\"Unit\":null}",
+        "{\"New\":1,\"a\":2}",
+        "{\"X\":1}",
+        "[\"Unit\"]",
+    ]);
     accepts(&[("{\"Unit\":1}", BTreeMap::from([(Unit, 1u8)]))]);
     rejects::<BTreeMap<Shape, u8>>(&["{\"New\":1}", "{\"X\":1}"]);
     accepts(&[("[\"Unit\",{\"New\":1}]", vec![Unit, New(1)])]);
@@ -131,8 +214,16 @@ fn enums() {
 #[test]
 fn types_of_the_standard_library() {
     accepts(&[("{\"secs\":1,\"nanos\":2}", Duration::new(1, 2)), ("[1,2]", Duration::new(1, 2))]);
-    rejects::<Duration>(&["{\"secs\":1}", "{\"secs\":1,\"nanos\":2,\"a\":0}", "1", "{\"secs\":1,\"secs\":1,\"nanos\":2}"]);
-    accepts(&[("\"127.0.0.1\"", IpAddr::V4(Ipv4Addr::LOCALHOST)), ("\"::\"", "::".parse().unwrap())]);
+    rejects::<Duration>(&[
+        "{\"secs\":1}",
+        "{\"secs\":1,\"nanos\":2,\"a\":0}",
+        "1",
+        "{\"secs\":1,\"secs\":1,\"nanos\":2}",
+    ]);
+    accepts(&[
+        ("\"127.0.0.1\"", IpAddr::V4(Ipv4Addr::LOCALHOST)),
+        ("\"::\"", "::".parse().unwrap()),
+    ]);
     rejects::<IpAddr>(&["\"127.0.0\"", "127", "[127,0,0,1]"]);
     accepts(&[("1", NonZeroU8::MIN)]);
     rejects::<NonZeroU8>(&["0", "256"]);

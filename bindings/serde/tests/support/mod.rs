@@ -1,4 +1,7 @@
 //! Rows of texts and values.
+// (each file of tests uses some of these)
+#![allow(dead_code)]
+
 use serde::de::DeserializeOwned;
 use std::fmt::Debug;
 
