@@ -4,7 +4,7 @@ use Rattle.std.specs.Prelude.{◌≡◌, ◌⊎◌, ◌↔◌, ◌≤◌, ℕ, s
 use Rattle.std.specs.Prelude.{None, length, ⊤}
 use Rattle.std.specs.Option.{option_to_list}
 use Rattle.format_json_pieces.specs.Begun.{IsViablePrefix, last_open, next_step}
-use Rattle.format_json_pieces.specs.Inside.{expected}
+use Rattle.format_json_pieces.specs.Inside.{expected_letter}
 use Rattle.format_json_pieces.specs.Value.{BeginsText}
 use Rattle.format_json_pieces.specs.declared.begun.Bracket.{Bracket}
 use Rattle.format_json_pieces.specs.declared.begun.Bracket.TheVariants.{Array, Object, Whole}
@@ -67,7 +67,7 @@ wanted After held = wanted_after held
 wanted (Name part) held = wanted_in_string part
 wanted (Text part) held = wanted_in_string part
 wanted (Number figure) held = wanted_in_number figure held
-wanted (Word letters) held = what.Letter (expected letters)
+wanted (Word letters) held = what.Letter (expected_letter letters)
 
 -- ---- the place
 
@@ -95,34 +95,38 @@ module _ (level : ℕ) (outer : Option Bracket) where
       (more : List ℕ) → IsViablePrefix (most_open level outer) mode held more
       ↔ BeginsIn level outer (front ++ more)
 
-  -- `IsNamed mode held rest expected`: at the end, or if the next byte is rejected, `expected` is
+  -- `IsNamed mode held rest expected_letter`: at the end, or if the next byte is rejected,
+  -- `expected_letter` is
   -- the name of `mode` in the brackets `held`. If the next byte opens a bracket too many,
-  -- `expected` is `NoDeeper`.
+  -- `expected_letter` is `NoDeeper`.
   abbrev pub IsNamed : Mode → List Bracket → List ℕ → Expected → Type 0
-  IsNamed mode held [] expected = expected ≡ wanted mode (last_open held)
-  IsNamed mode held (b ∷ rest) expected =
-      ((next_step mode (last_open held) b ≡ Invalid) × (expected ≡ wanted mode (last_open held)))
+  IsNamed mode held [] expected_letter = expected_letter ≡ wanted mode (last_open held)
+  IsNamed mode held (b ∷ rest) expected_letter =
+      ((next_step mode (last_open held) b ≡ Invalid)
+      × (expected_letter ≡ wanted mode (last_open held)))
       ⊎ ((k : Bracket) × (next_step mode (last_open held) b ≡ Opens k)
-      × (most_open level outer ≤ length held) × (expected ≡ what.NoDeeper))
+      × (most_open level outer ≤ length held) × (expected_letter ≡ what.NoDeeper))
 
-  -- `IsWanted front rest expected`: `expected` is the input that is expected after `front`, with
+  -- `IsWanted front rest expected_letter`: `expected_letter` is the input that is expected after
+  -- `front`, with
   -- `rest` remaining.
   abbrev pub IsWanted : List ℕ → List ℕ → Expected → Type 0
-  IsWanted front rest expected =
+  IsWanted front rest expected_letter =
       (mode : Mode) × (held : List Bracket) × LeadsTo front mode held
-      × IsNamed mode held rest expected
+      × IsNamed mode held rest expected_letter
 
-  -- `IsPlaceIn bytes offset expected`: an offset in `bytes`, and the input that is expected there.
+  -- `IsPlaceIn bytes offset expected_letter`: an offset in `bytes`, and the input that is expected
+  -- there.
   -- `End` is expected without such a name only if any continuation is accepted.
   abbrev pub IsPlaceIn : List ℕ → ℕ → Expected → Type 0
-  IsPlaceIn bytes offset expected =
+  IsPlaceIn bytes offset expected_letter =
       (front : List ℕ) × (rest : List ℕ) × (bytes ≡ front ++ rest) × (length front ≡ offset)
       × BeginsIn level outer front × IsStopped front rest
-      × (IsWanted front rest expected
-      ⊎ ((expected ≡ what.End) × (rest ≡ [])
+      × (IsWanted front rest expected_letter
+      ⊎ ((expected_letter ≡ what.End) × (rest ≡ [])
       × ((more : List ℕ) → BeginsIn level outer (front ++ more))))
 
--- `IsPlace level bytes offset expected`: such a place in a JSON text.
+-- `IsPlace level bytes offset expected_letter`: such a place in a JSON text.
 abbrev pub IsPlace : ℕ → List ℕ → ℕ → Expected → Type 0
 IsPlace level = IsPlaceIn level (Some Whole)
 

@@ -11,7 +11,7 @@ use Rattle.winnow_expression.specs.declared.combinator.places.Next.{Next}
 use Rattle.winnow_expression.specs.declared.combinator.places.Next.TheVariants.{Postfix}
 use Rattle.winnow_expression.specs.declared.combinator.places.Next.TheVariants.{Infix as infix_read}
 use Rattle.winnow_expression.specs.declared.combinator.operators.Infix.{Infix}
-use Rattle.winnow_expression_trees.specs.Reading.{Below}
+use Rattle.winnow_expression_trees.specs.Reading.{IsBelowPower}
 
 mutual
   -- A call of a least power reads a tree, from one place to another; every open call ends, or not.
