@@ -23,7 +23,8 @@ use Rattle.exported.specs.declared.json.extent.JsonValueState.{JsonValueState}
 -- the parts in the order of their numbers, without the last
 abbrev pub part_at : ℕ → Part
 part_at n = get_or
-    (parts.Plain ∷ parts.Escape ∷ parts.Unit ∷ parts.BehindD ∷ parts.Three ∷ parts.Two ∷ parts.One
+    (parts.Plain ∷ parts.Escape ∷ parts.Unit ∷ parts.AfterSurrogateD ∷ parts.Three ∷ parts.Two ∷
+    parts.One
     ∷ parts.HighTwo ∷ parts.HighOne ∷ parts.Backslash ∷ parts.LetterU ∷ parts.LowD
     ∷ parts.LowSecond ∷ parts.TailOne ∷ parts.TailTwo ∷ parts.TailThree ∷ parts.TailLong
     ∷ parts.TailScalar ∷ parts.TailLonger ∷ []) n parts.TailLast

@@ -20,9 +20,9 @@ EndsAField d before = (end : List ℕ) → IsLineEnd d.ends end
     → (fields : List (List ℕ)) × IsRecord d (before ++ end) fields []
 
 -- `LacksForRecord d why before more back`: `more` would make `before` a record, but `back` starts
--- with a
--- quote or a plain byte after a field; is empty, if a quote is open; starts with a carriage return
--- or line feed that is not a line ending; or does not have a line feed after a carriage return.
+-- with a quote or a plain byte after a field; is empty, if a quote is open; starts with a carriage
+-- return or line feed that is not a line ending; or does not have a line feed after a carriage
+-- return.
 abbrev pub LacksForRecord : Dialect → Reason → List ℕ → List ℕ → List ℕ → Type 0
 LacksForRecord d QuoteInField before more back =
     IsLineEnd d.ends more × StartsWith (λ b. b ≡ d.quote) back × EndsAField d before

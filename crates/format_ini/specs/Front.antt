@@ -79,8 +79,7 @@ NoComment marks line = (before : List ℕ) (mark : ℕ) (rest : List ℕ) → li
     → IsMark marks mark → MayStartComment before → ⊥
 
 -- `IsWithoutComment marks line kept`: `kept` is `line` up to the first comment of `marks`, or all
--- of it if no
--- comment begins in it.
+-- of it if no comment begins in it.
 abbrev pub IsWithoutComment : Marks → List ℕ → List ℕ → Type 0
 IsWithoutComment marks line kept =
     NoComment marks kept × ((line ≡ kept) ⊎ ((mark : ℕ) × (rest : List ℕ)

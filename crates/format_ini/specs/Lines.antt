@@ -56,8 +56,7 @@ abbrev pub NoLooseSection : List ℕ → Type 0
 NoLooseSection text = StartsWith (λ b. b ≡ 91) text × All (IsNotByte 93) (drop 2 text)
 
 -- `NoSectionHead d text`: `text` is not meant as the head of a section. It does not start with `[`,
--- or the
--- dialect has loose sections, and `text` is not one.
+-- or the dialect has loose sections, and `text` is not one.
 abbrev pub NoSectionHead : Dialect → List ℕ → Type 0
 NoSectionHead d text =
     NotFirst (λ b. b ≡ 91) text ⊎ ((d.loose_sections ≡ true) × NoLooseSection text)

@@ -31,8 +31,7 @@ abbrev pub IsFor : List ℕ → List ℕ → List ℕ → Said → Type 0
 IsFor name key now one = (now ≡ name) × IsPairOf key one
 
 -- `HasNoPair name key now said`: no entry of `said`, the first of which is in the section `now`, is
--- a
--- pair of this section and key.
+-- a pair of this section and key.
 unfoldable pub HasNoPair : List ℕ → List ℕ → List ℕ → List Said → Type 0
 HasNoPair name key now [] = ⊤
 HasNoPair name key now (one ∷ others) =

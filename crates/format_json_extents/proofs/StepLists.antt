@@ -4,7 +4,7 @@ use Rattle.std.proofs.Common.{false, inl, inr, length, refl, subst, suc, sym, tr
 use Rattle.std.proofs.lemmas.List.{append-nil}
 use Rattle.std.proofs.lemmas.List.Elements.{All-head, All-weaker}
 use Rattle.format_json_extents.proofs.Matching.{byte_matches, first_byte_of_match}
-use Rattle.format_json_extents.proofs.Matching.{given_byte_then_is_cons, heads_equal, one_byte_text}
+use Rattle.format_json_extents.proofs.Matching.{given_byte_then_is_cons, heads_equal}
 use Rattle.format_json_extents.proofs.Matching.{rest_after_all, then_matches, then_of_parts}
 use Rattle.format_json_extents.proofs.Scanning.{rest_after_unique}
 use Rattle.format_json_extents.proofs.StepCalls.{Follows, Leading, Stops, Told}
@@ -82,12 +82,12 @@ list_arrives : {P : List ℕ → Type 0} {tells : StepList → List ℕ → Type
 list_arrives item _ (last text is) =
     let (told, it, calls) = item text is in (told, tells_last told text it, calls)
 list_arrives item _ (before first others text is items e) =
-    let (one_byte_text, it, head) = item first is in
+    let (one, it, head) = item first is in
     let (rest, list, behind) = list_arrives item others items in (
-      one_byte_text ++ rest,
-      tells_before one_byte_text rest (one_byte_text ++ rest) first others text it list e refl,
+      one ++ rest,
+      tells_before one rest (one ++ rest) first others text it list e refl,
       λ front tail more leads stops ends.
-          told_as _ (append_assoc one_byte_text rest more) (told_from (simp (e, append_assoc))
+          told_as _ (append_assoc one rest more) (told_from (simp (e, append_assoc))
           (head front (44 ∷ (others ++ tail)) (rest ++ more) leads (inl refl) (λ gap all.
           told_from (sym (append_assoc gap (44 ∷ []) (others ++ tail)))
           (behind (gap ++ 44 ∷ []) tail more (mark_leads gap 44 all (inl refl)) stops ends)))),

@@ -51,19 +51,19 @@ pub scalars_parts : (xs ys : List ℕ) → all_scalars (xs ++ ys) ≡ true
     → (all_scalars xs ≡ true) × (all_scalars ys ≡ true)
 scalars_parts [] ys h = (refl, h)
 scalars_parts (x ∷ xs) ys h =
-    let (one_byte_text, more) = both_true _ (all_scalars (xs ++ ys)) h in
+    let (one, more) = both_true _ (all_scalars (xs ++ ys)) h in
     let (front, rest) =
-    scalars_parts xs ys more in (and_true _ (all_scalars xs) one_byte_text front, rest)
+    scalars_parts xs ys more in (and_true _ (all_scalars xs) one front, rest)
 
 pub fit_parts : {A : Type 0} (cs xs ys : List ℕ) → cs ≡ xs ++ ys → Fits A cs → Fits A xs × Fits A ys
 fit_parts cs xs ys e fits =
-    let (one_byte_text, two) = scalars_parts xs ys
+    let (one, two) = scalars_parts xs ys
     (let P : List ℕ → Type 0 = λ l. all_scalars l ≡ true in subst P e fits.scalars) in
     let size : length (encode_utf8_all xs) + length (encode_utf8_all ys)
     ≡ length (encode_utf8_all cs) =
     sym (ap (λ l. length (encode_utf8_all l)) e ∙ ap (λ l. length l) (encodes-append xs ys)
     ∙ length-append (encode_utf8_all xs) (encode_utf8_all ys)) in (
-      record { alloc = fits.alloc; scalars = one_byte_text; few = omega (arith, size, fits.few) },
+      record { alloc = fits.alloc; scalars = one; few = omega (arith, size, fits.few) },
       record { alloc = fits.alloc; scalars = two; few = omega (arith, size, fits.few) },
     )
 

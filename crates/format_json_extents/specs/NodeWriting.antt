@@ -18,8 +18,7 @@ abbrev pub offset_of_rest : ℕ → List ℕ → ℕ
 offset_of_rest size bytes = size - length bytes
 
 -- `WritesNodes P size index bytes rest next old new`: `bytes` is the end of a text of `size` bytes.
--- It
--- starts with a text that has nodes by `P`, followed by `rest`. The nodes are written from the
+-- It starts with a text that has nodes by `P`, followed by `rest`. The nodes are written from the
 -- index on, and the index after them is `next`.
 pub record WritesNodes (P : NodesAt) (size index : ℕ) (bytes rest : List ℕ) (next : ℕ)
     (old new : List JsonNode) : Type 0 where

@@ -100,8 +100,7 @@ abbrev pub ExtendsNumberOf : List ℕ → ℕ → Type 0
 ExtendsNumberOf bytes b = StartsWith BeginsNumber bytes × ExtendsNumber b
 
 -- `IsNotContinued text rest`: if `text` starts as a number does, `rest` does not start with a byte
--- that
--- can continue a number: a digit, a point or an E.
+-- that can continue a number: a digit, a point or an E.
 abbrev pub IsNotContinued : List ℕ → List ℕ → Type 0
 IsNotContinued text rest = StartsWith BeginsNumber text → NotFirst ContinuesNumber rest
 

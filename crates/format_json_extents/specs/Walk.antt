@@ -22,8 +22,7 @@ abbrev pub ExtendsSeparator : ℕ → Type 0
 ExtendsSeparator = EitherByte IsWhitespaceByte (EitherByte IsWhitespaceByte IsCommaOrColon)
 
 -- `IsNextValue level text bytes rest`: after whitespace and at most one separator, `bytes` has
--- `text`,
--- the longest value there, followed by `rest`.
+-- `text`, the longest value there, followed by `rest`.
 pub record IsNextValue (level : ℕ) (text bytes rest : List ℕ) : Type 0 where
   pub lead : List ℕ
   pub start : List ℕ

@@ -79,7 +79,7 @@ DigitsTail = Then IsCharacterCode IsStringTail
 abbrev pub CompletesPart : Part → List ℕ → Type 0
 CompletesPart parts.Escape text = Then IsEscape IsStringTail text
 CompletesPart parts.Unit text = DigitsTail text
-CompletesPart parts.BehindD text = (d : ℕ) → IsHexDigitD d → DigitsTail (d ∷ text)
+CompletesPart parts.AfterSurrogateD text = (d : ℕ) → IsHexDigitD d → DigitsTail (d ∷ text)
 CompletesPart parts.Three text =
     (d : ℕ) → IsHexDigit d → (IsHexDigitD d → ⊥) → DigitsTail (d ∷ text)
 CompletesPart parts.Two text = Then IsTwoHexDigits IsStringTail text

@@ -151,8 +151,7 @@ abbrev pub IsViablePrefix : ℕ → Mode → List Bracket → List ℕ → Type 
 IsViablePrefix = IsWalked (λ rest. ⊤)
 
 -- `IsViableText level bytes`: `bytes` is a possible prefix of a JSON text, or a complete one. Each
--- byte
--- may occur there in such a text, including the whitespace around its value.
+-- byte may occur there in such a text, including the whitespace around its value.
 abbrev pub IsViableText : ℕ → List ℕ → Type 0
 IsViableText level bytes = IsViablePrefix (suc level) Value (Whole ∷ []) bytes
 

@@ -12,7 +12,7 @@ use Rattle.format_json_pieces.specs.declared.inside.Letters.{Letters}
 use Rattle.format_json_pieces.specs.declared.inside.Letters.TheVariants.{Alse, E, L, Ll, Lse, Rue}
 use Rattle.format_json_pieces.specs.declared.inside.Letters.TheVariants.{Se, Ue, Ull}
 use Rattle.format_json_pieces.specs.declared.inside.Part.{Part}
-use Rattle.format_json_pieces.specs.declared.inside.Part.TheVariants.{Backslash, BehindD, Escape}
+use Rattle.format_json_pieces.specs.declared.inside.Part.TheVariants.{Backslash, AfterSurrogateD, Escape}
 use Rattle.format_json_pieces.specs.declared.inside.Part.TheVariants.{HighOne, HighTwo, LetterU}
 use Rattle.format_json_pieces.specs.declared.inside.Part.TheVariants.{LowD, LowSecond, One, Plain}
 use Rattle.format_json_pieces.specs.declared.inside.Part.TheVariants.{TailLast, TailLong}
@@ -76,8 +76,8 @@ abbrev pub part_behind : Part → ℕ → Inner
 part_behind Plain b = plain_behind b
 part_behind Escape b = escape_behind b
 part_behind Unit b =
-    if b == 68 || b == 100 then inners.Part BehindD else part_if (is_hex_digit b) Three
-part_behind BehindD b =
+    if b == 68 || b == 100 then inners.Part AfterSurrogateD else part_if (is_hex_digit b) Three
+part_behind AfterSurrogateD b =
     if is_high_surrogate_digit b then inners.Part HighTwo else part_if
     (is_hex_digit b && not (is_low_surrogate_digit b)) Two
 part_behind Three b = part_if (is_hex_digit b) Two

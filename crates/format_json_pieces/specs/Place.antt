@@ -38,7 +38,7 @@ wanted_after None = what.End
 abbrev pub wanted_in_string : Part → Expected
 wanted_in_string parts.Plain = what.Character
 wanted_in_string parts.Escape = what.Escape
-wanted_in_string parts.BehindD = what.FirstHalf
+wanted_in_string parts.AfterSurrogateD = what.FirstHalf
 wanted_in_string parts.Backslash = what.SecondHalf
 wanted_in_string parts.LetterU = what.SecondHalf
 wanted_in_string parts.LowD = what.SecondHalf
@@ -95,38 +95,34 @@ module _ (level : ℕ) (outer : Option Bracket) where
       (more : List ℕ) → IsViablePrefix (most_open level outer) mode held more
       ↔ BeginsIn level outer (front ++ more)
 
-  -- `IsNamed mode held rest expected_letter`: at the end, or if the next byte is rejected,
-  -- `expected_letter` is
+  -- `IsNamed mode held rest expected`: at the end, or if the next byte is rejected, `expected` is
   -- the name of `mode` in the brackets `held`. If the next byte opens a bracket too many,
-  -- `expected_letter` is `NoDeeper`.
+  -- `expected` is `NoDeeper`.
   abbrev pub IsNamed : Mode → List Bracket → List ℕ → Expected → Type 0
-  IsNamed mode held [] expected_letter = expected_letter ≡ wanted mode (last_open held)
-  IsNamed mode held (b ∷ rest) expected_letter =
-      ((next_step mode (last_open held) b ≡ Invalid)
-      × (expected_letter ≡ wanted mode (last_open held)))
+  IsNamed mode held [] expected = expected ≡ wanted mode (last_open held)
+  IsNamed mode held (b ∷ rest) expected =
+      ((next_step mode (last_open held) b ≡ Invalid) × (expected ≡ wanted mode (last_open held)))
       ⊎ ((k : Bracket) × (next_step mode (last_open held) b ≡ Opens k)
-      × (most_open level outer ≤ length held) × (expected_letter ≡ what.NoDeeper))
+      × (most_open level outer ≤ length held) × (expected ≡ what.NoDeeper))
 
-  -- `IsWanted front rest expected_letter`: `expected_letter` is the input that is expected after
-  -- `front`, with
+  -- `IsWanted front rest expected`: `expected` is the input that is expected after `front`, with
   -- `rest` remaining.
   abbrev pub IsWanted : List ℕ → List ℕ → Expected → Type 0
-  IsWanted front rest expected_letter =
+  IsWanted front rest expected =
       (mode : Mode) × (held : List Bracket) × LeadsTo front mode held
-      × IsNamed mode held rest expected_letter
+      × IsNamed mode held rest expected
 
-  -- `IsPlaceIn bytes offset expected_letter`: an offset in `bytes`, and the input that is expected
-  -- there.
+  -- `IsPlaceIn bytes offset expected`: an offset in `bytes`, and the input that is expected there.
   -- `End` is expected without such a name only if any continuation is accepted.
   abbrev pub IsPlaceIn : List ℕ → ℕ → Expected → Type 0
-  IsPlaceIn bytes offset expected_letter =
+  IsPlaceIn bytes offset expected =
       (front : List ℕ) × (rest : List ℕ) × (bytes ≡ front ++ rest) × (length front ≡ offset)
       × BeginsIn level outer front × IsStopped front rest
-      × (IsWanted front rest expected_letter
-      ⊎ ((expected_letter ≡ what.End) × (rest ≡ [])
+      × (IsWanted front rest expected
+      ⊎ ((expected ≡ what.End) × (rest ≡ [])
       × ((more : List ℕ) → BeginsIn level outer (front ++ more))))
 
--- `IsPlace level bytes offset expected_letter`: such a place in a JSON text.
+-- `IsPlace level bytes offset expected`: such a place in a JSON text.
 abbrev pub IsPlace : ℕ → List ℕ → ℕ → Expected → Type 0
 IsPlace level = IsPlaceIn level (Some Whole)
 

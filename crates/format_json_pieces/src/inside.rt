@@ -16,7 +16,7 @@ pub enum Part {
     /// The first of four hexadecimal digits.
     Unit,
     /// The second, where the first is a D: the unit may be a surrogate.
-    BehindD,
+    AfterSurrogateD,
     /// Three digits more.
     Three,
     /// Two digits more.
@@ -186,10 +186,10 @@ pub(crate) fn part_behind(part: Part, byte: u8) -> Inner
     match part {
         Part::Plain => plain_behind(byte),
         Part::Escape => escape_behind(byte),
-        Part::Unit if byte == b'D' || byte == b'd' => Inner::Part(Part::BehindD),
+        Part::Unit if byte == b'D' || byte == b'd' => Inner::Part(Part::AfterSurrogateD),
         Part::Unit => part_where(is_hex(byte), Part::Three),
-        Part::BehindD if is_high(byte) => Inner::Part(Part::HighTwo),
-        Part::BehindD => part_where(is_hex(byte) && !is_low(byte), Part::Two),
+        Part::AfterSurrogateD if is_high(byte) => Inner::Part(Part::HighTwo),
+        Part::AfterSurrogateD => part_where(is_hex(byte) && !is_low(byte), Part::Two),
         Part::Three => part_where(is_hex(byte), Part::Two),
         Part::Two => part_where(is_hex(byte), Part::One),
         Part::One => part_where(is_hex(byte), Part::Plain),

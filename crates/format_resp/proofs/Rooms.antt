@@ -43,17 +43,17 @@ module _ {B : Type 0} where
   pub lacks_ending : (v w : Vec ℕ B) (xs ys : List ℕ) → w.items ++ xs ≡ v.items ++ ys
       → vec_capacity v ≤ vec_capacity w → LacksRoom w xs → LacksRoom v ys
   lacks_ending v w xs ys e room full =
-      let element_count : length w.items + length xs ≡ length v.items + length ys =
+      let many : length w.items + length xs ≡ length v.items + length ys =
       sym (length-append w.items xs) ∙ ap (λ l. length l) e ∙ length-append v.items ys in
-      omega (arith, full, room, element_count, v.ok.0, w.ok.0)
+      omega (arith, full, room, many, v.ok.0, w.ok.0)
 
   -- no room for the bytes after the first
   pub lacks_behind : (v w : Vec ℕ B) (xs ys : List ℕ) → w.items ≡ v.items ++ xs
       → vec_capacity v ≤ vec_capacity w → LacksRoom w ys → LacksRoom v (xs ++ ys)
   lacks_behind v w xs ys e room full =
-      let element_count : length w.items ≡ length v.items + length xs =
+      let many : length w.items ≡ length v.items + length xs =
       ap (λ l. length l) e ∙ length-append v.items xs in
-      omega (arith, full, room, element_count, v.ok.0, w.ok.0, length-append xs ys)
+      omega (arith, full, room, many, v.ok.0, w.ok.0, length-append xs ys)
 
   -- no room for the first digits of a number, or for the last
   pub digits_first : (v : Vec ℕ B) (n : ℕ) → 10 ≤ n → n < 2 ^ 64 → LacksRoom v (decimal (n / 10))

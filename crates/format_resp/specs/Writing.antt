@@ -16,9 +16,8 @@ overlay zero [] (x ∷ old) = x ∷ old
 overlay zero (n ∷ nodes) (x ∷ old) = n ∷ overlay zero nodes old
 
 -- `WritesNodes P size index bytes rest next old new`: `bytes` is the end of an input of `size`
--- bytes. It
--- starts with a text that has nodes by `P`, followed by `rest`. The nodes are written from the
--- index on, and the index after them is `next`.
+-- bytes. It starts with a text that has nodes by `P`, followed by `rest`. The nodes are written
+-- from the index on, and the index after them is `next`.
 pub record WritesNodes (P : NodesAt) (size index : ℕ) (bytes rest : List ℕ) (next : ℕ)
     (old new : List RespNode) : Type 0 where
   pub nodes : List RespNode

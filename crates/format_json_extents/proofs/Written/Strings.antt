@@ -39,7 +39,7 @@ hex_low b is = grind (arith, is)
 unit_low : {P : ℕ → ℕ → Type 0} {Q : ℕ → Type 0} → Ranges P Q → IsAscii (IsCodeUnit P)
 unit_low {P} ranges =
     then_in (two_in P (λ a b is.
-    let (one_byte_text, two) = ranges.hex a b is in (hex_low a one_byte_text, hex_low b two)))
+    let (one, two) = ranges.hex a b is in (hex_low a one, hex_low b two)))
     (then_in (byte_in IsHexDigit hex_low) (byte_in IsHexDigit hex_low))
 
 slash_low : IsAscii (IsByte IsBackslash)

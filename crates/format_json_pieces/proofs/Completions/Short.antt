@@ -37,7 +37,7 @@ abbrev rest_of : Part → List ℕ
 rest_of parts.Plain = []
 rest_of parts.Escape = 110 ∷ []
 rest_of parts.Unit = 48 ∷ 48 ∷ 48 ∷ 48 ∷ []
-rest_of parts.BehindD = 48 ∷ 48 ∷ 48 ∷ []
+rest_of parts.AfterSurrogateD = 48 ∷ 48 ∷ 48 ∷ []
 rest_of parts.Three = 48 ∷ 48 ∷ 48 ∷ []
 rest_of parts.Two = 48 ∷ 48 ∷ []
 rest_of parts.One = 48 ∷ []

@@ -181,9 +181,9 @@ module _ (text : List ℕ) where
       (λ e x. let (is, more) = where_by (is_hex_digit b) parts.Three text x in
       more b (hex b is) (no_d b e))
 
-  behind_d : (b : ℕ) → In (part_behind parts.BehindD b) → Goal parts.BehindD b
+  behind_d : (b : ℕ) → In (part_behind parts.AfterSurrogateD b) → Goal parts.AfterSurrogateD b
   behind_d b =
-      if_by_cases (λ i. In i → Goal parts.BehindD b) (is_high_surrogate_digit b) _ _
+      if_by_cases (λ i. In i → Goal parts.AfterSurrogateD b) (is_high_surrogate_digit b) _ _
       (λ e x d is. high_front d b (high_of d b is e) x)
       (λ e x d is. let (f, more) = where_by (is_hex_digit b && not (is_low_surrogate_digit b))
       parts.Two text x in
@@ -194,7 +194,7 @@ module _ (text : List ℕ) where
   part_back parts.Plain b x = plain b x
   part_back parts.Escape b x = escape b x
   part_back parts.Unit b x = unit b x
-  part_back parts.BehindD b x = behind_d b x
+  part_back parts.AfterSurrogateD b x = behind_d b x
   part_back parts.Three b x =
       let (is, more) = where_by (is_hex_digit b) parts.Two text x in
       λ d digit other. only_front d b (digit, hex b is, λ e. absurd (other e)) more

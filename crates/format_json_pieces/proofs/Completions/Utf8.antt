@@ -226,7 +226,7 @@ module _ (b : ℕ) (text : List ℕ) where
       if_by_cases (λ i. In i → IsUtf8 (b ∷ text)) (b == 68 || b == 100) _ _
       (λ e y. low_in (grind (arith, nat_tests, e)) y)
       (λ e y. part_low (is_hex_digit b) hex_low parts.Three (λ z. z) y) x
-  part_utf8 parts.BehindD x =
+  part_utf8 parts.AfterSurrogateD x =
       if_by_cases (λ i. In i → IsUtf8 (b ∷ text)) (is_high_surrogate_digit b) _ _
       (λ e y. low_in (grind (arith, nat_tests, e)) y)
       (λ e y. part_low (is_hex_digit b && not (is_low_surrogate_digit b))

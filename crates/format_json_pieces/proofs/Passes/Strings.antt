@@ -73,7 +73,7 @@ module _ (rest : List ℕ) {inside : Part → List ℕ → Type 0} {behind : Lis
         elim (both_ways (is.one == 68 || is.one == 100)) [
           | inl d ↦
               let few : is.two ≤ 55 = below (grind (arith, nat_tests, d)) in
-              two_on BeginNonSurrogate parts.Unit parts.BehindD parts.Two xs cs is
+              two_on BeginNonSurrogate parts.Unit parts.AfterSurrogateD parts.Two xs cs is
               (grind (arith, hex), grind (arith, nat_tests, d))
               (grind (arith, also), grind (arith, nat_tests, also, few)) x
           | inr not ↦
@@ -86,7 +86,8 @@ module _ (rest : List ℕ) {inside : Part → List ℕ → Type 0} {behind : Lis
   high_on : Passes rest (IsCodeUnit BeginHighSurrogate) (inside parts.Unit) (inside parts.Backslash)
   high_on =
       then_pass (record {
-        on = λ xs cs is x. two_on BeginHighSurrogate parts.Unit parts.BehindD parts.HighTwo xs cs is
+        on = λ xs cs is x. two_on BeginHighSurrogate parts.Unit parts.AfterSurrogateD
+            parts.HighTwo xs cs is
             (grind (arith, is.are_bytes), grind (arith, nat_tests, is.are_bytes))
             (grind (arith, is.are_bytes), grind (arith, nat_tests, is.are_bytes)) x;
       }) (digits_on parts.HighTwo parts.HighOne parts.Backslash
