@@ -9,10 +9,9 @@ ghost use Rattle.std.specs.Prelude.{◌^◌, MatchBool, MatchOption, MatchResult
 ghost use Rattle.std.specs.Prelude.{List, ℕ, IsTrue, ◌↔◌, take};
 ghost use Rattle.std.specs.List.{All};
 ghost use Rattle.format_csv_records.specs.Dialects.{AreFields, IsLineEnd, IsPlain, RecordEnds};
-ghost use Rattle.format_csv_records.specs.Parts.{ClosedQuotes, EndsNowhere, IsNotQuote};
-ghost use Rattle.format_csv_records.specs.Parts.{LongestPrefixLength, NoEndReason, NotFirst};
+ghost use Rattle.format_csv_records.specs.Parts.{ClosedQuotes, EndsNowhere, IsNotQuote, NotFirst};
+ghost use Rattle.format_csv_records.specs.Parts.{LongestPrefixLength, NoEndReason, UnclosedQuotes};
 ghost use Rattle.format_csv_records.specs.Parts.{StartsWithField, StartsWithOpenQuote};
-ghost use Rattle.format_csv_records.specs.Parts.{UnclosedQuotes};
 ghost use Rattle.format_csv_records.specs.Records.{fields_of};
 ghost use Rattle.format_csv_records.specs.Refused.{IsNoRecord, ReadsRecord};
 ghost use Rattle.format_csv_records.specs.declared.read.RecordError.TheVariants.{OutOfMemory};

@@ -1,7 +1,6 @@
 -- What the ends of calls tell: the value of the tree that was read, or why the call fails.
 use Rattle.std.specs.Prelude.{◌≡◌, ◌⊎◌, ◌<ℤ◌, ◌≤ℤ◌, ℕ, ℤ, Bool, true, false, List, Option}
-use Rattle.std.specs.Prelude.{Some, None}
-use Rattle.std.specs.Prelude.{Ok, Err}
+use Rattle.std.specs.Prelude.{Some, None, Ok, Err}
 use Rattle.std.proofs.Common.{refl, sym, ◌∙◌, ap, subst, inl, inr, arith}
 use Rattle.std.specs.Int.Signed.{clash_ℤ}
 use Rattle.streams.specs.Input.{Input}
@@ -9,9 +8,8 @@ use Rattle.streams.specs.Kind.{Kind, backtrack, cut, incomplete, memory}
 use Rattle.streams.specs.Reading.{Reading}
 use Rattle.stream_errors.specs.Form.{Answer, assert_kind}
 use Rattle.stream_errors.specs.Form.Inversion.{same_err}
-use Rattle.parser_definitions.specs.Expression.{Call, JoinEnds, Open}
-use Rattle.parser_definitions.specs.Expression.{all_end, fails_as, first_last}
-use Rattle.parser_definitions.specs.Expression.{next_last}
+use Rattle.parser_definitions.specs.Expression.{Call, JoinEnds, Open, all_end, fails_as}
+use Rattle.parser_definitions.specs.Expression.{first_last, next_last}
 use Rattle.parser_definitions.specs.Left.{End, Left, back}
 use Rattle.parser_definitions.specs.Outcome.{Does, Outcome, Setting, asks, backs, cuts, outcome_of}
 use Rattle.parser_definitions.specs.Outcome.{took, wants}
@@ -47,14 +45,12 @@ use Rattle.winnow_expression_trees.specs.Reading.{IsTreeOver, OperandStep, Opera
 use Rattle.winnow_expression_trees.specs.Tree.{behind}
 use Rattle.winnow_expression_trees.proofs.Left.{Fails, IsLeft, Kept, Told, comes_begins, comes_left}
 use Rattle.winnow_expression_trees.proofs.Left.{failed, follows_value, grows_value, left_takes}
-use Rattle.winnow_expression_trees.proofs.Left.{stops}
-use Rattle.winnow_expression_trees.proofs.Left.{value_alike}
+use Rattle.winnow_expression_trees.proofs.Left.{stops, value_alike}
 use Rattle.winnow_expression_trees.proofs.Opened.{Opened}
 use Rattle.winnow_expression_trees.proofs.Over.{no_postfix_still, no_turn_begun, tree_over_shortens}
-use Rattle.winnow_expression_trees.proofs.Plain.{Plain, decided, failed_has_no_operand_step}
-use Rattle.winnow_expression_trees.proofs.Plain.{failed_has_no_operator_step, no_prefix}
-use Rattle.winnow_expression_trees.proofs.Plain.{operand_step_of_run, operator_step_of_run}
-use Rattle.winnow_expression_trees.proofs.Plain.{still_prefix}
+use Rattle.winnow_expression_trees.proofs.Plain.{Plain, decided, no_prefix, still_prefix}
+use Rattle.winnow_expression_trees.proofs.Plain.{failed_has_no_operand_step, operator_step_of_run}
+use Rattle.winnow_expression_trees.proofs.Plain.{failed_has_no_operator_step, operand_step_of_run}
 
 some_is : {p q : ℤ} → ◌≡◌ {A = Option ℤ} (Some p) (Some q) → p ≡ q
 some_is e = cc
