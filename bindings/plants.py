@@ -171,7 +171,7 @@ FAULTS = [
         ("an error has no offset", "code =>", "Some(out.error_offset)", "None"),
     ),
     *of(RUST + "pairs.rs",
-        ("key and value are swapped", "exports::DONE", "(at(line, out.key), at(line, out.value))", "(at(line, out.value), at(line, out.key))"),
+        ("key and value are swapped", "exports::DONE", "(at(bytes, out.key), at(bytes, out.value))", "(at(bytes, out.value), at(bytes, out.key))"),
         ("the name of a section is its key", "fn next", "head.value", "head.key"),
         ("sections end at pairs", "fn next", "it.key.length == 0", "it.key.length != 0"),
         ("sections have no end", "fn next", "self.left = left;", ""),
