@@ -25,16 +25,16 @@ one_sign Plus v w x y is was = is.0 ∙ sym was.0
 one_sign Times v w x y is was = is.0 ∙ sym was.0
 
 pub same_units : {T : Type 0} (o p : Postfix Scale) → o ≡ p
-    → AlikePostfix (FoldAlike {T = T} (λ v w. v ≡ w) (λ f i v a j. FoldGives (unit_value f v) i a j)) o
-    p
+    → AlikePostfix
+    (FoldAlike {T = T} (λ v w. v ≡ w) (λ f i v a j. FoldGives (unit_value f v) i a j)) o p
 same_units {T} o p same =
     let P : Postfix Scale → Type 0 = λ z. AlikePostfix
     (FoldAlike {T = T} (λ v w. v ≡ w) (λ f i v a j. FoldGives (unit_value f v) i a j)) o z in
     subst P same (refl, gives_alike unit_value o.1 (one_unit o.1))
 
 pub same_signs : {T : Type 0} (o p : Infix Sign) → o ≡ p
-    → AlikeInfix (FoldsAlike {T = T} (λ v w. v ≡ w) (λ f i v w a j. FoldGives (sign_value f v w) i a j))
-    o p
+    → AlikeInfix
+    (FoldsAlike {T = T} (λ v w. v ≡ w) (λ f i v w a j. FoldGives (sign_value f v w) i a j)) o p
 same_signs {T} o p same =
     let P : Infix Sign → Type 0 = λ z. AlikeInfix
     (FoldsAlike {T = T} (λ v w. v ≡ w) (λ f i v w a j. FoldGives (sign_value f v w) i a j)) o z in
