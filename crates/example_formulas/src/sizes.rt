@@ -122,14 +122,16 @@ fn sign_clones_are_equal()
 
 /// States that a call of the parser of a number keeps its state and the input's status.
 fn a_number_stays<O: Uint>()
-    ensures { KeepsState (Ran bytes_reading ⟦<DecUint as Parser<Bytes, O, EmptyError>>⟧.does plain) tt }
+    ensures { KeepsState (Ran bytes_reading ⟦<DecUint as Parser<Bytes, O, EmptyError>>⟧.does plain)
+        tt }
 {}
 
 /// States that a call of two marks keeps its state and the input's status, unless it is out of
 /// memory.
 fn marks_stay<O: Clone>()
     ensures { (x : ℕ) (y : ℕ) (u : O) (v : O)
-        → KeepsState (Ran bytes_reading ⟦<Marks<Bytes, O> as Parser<Bytes, O, EmptyError>>⟧.does plain)
+        → KeepsState
+        (Ran bytes_reading ⟦<Marks<Bytes, O> as Parser<Bytes, O, EmptyError>>⟧.does plain)
         ((x, u), (y, v)) }
 {}
 

@@ -1,5 +1,6 @@
 -- An input begins with at most one part, and is a document in at most one way.
-use Rattle.std.proofs.Common.{◌≡◌, ◌≢◌, ◌≤◌, ◌<◌, ◌∙◌, ℕ, List, [], ◌∷◌, ◌++◌, length, refl, sym}
+use Rattle.std.proofs.Common.{◌≡◌, ◌≢◌, ◌≤◌, ◌<◌, ◌∙◌, ℕ, List, [], ◌∷◌, ◌++◌, length}
+use Rattle.std.proofs.Common.{refl, sym}
 use Rattle.std.proofs.Common.{ap, subst, arith, inl, inr, append_assoc, lit<}
 use Rattle.std.specs.List.{All}
 use Rattle.std.proofs.lemmas.List.Elements.{All-append, All-head, All-tail, All-weaker}
@@ -8,7 +9,8 @@ use Rattle.readers.specs.Pair.{IsKeyByte}
 use Rattle.readers.specs.Document.{IsBlank, IsWhite, IsTrailing, IsCommentByte, IsNameByte}
 use Rattle.readers.specs.Document.{IsValueByte, NotFirst, NotLast, EndsLine, PairBytes, Part, white}
 use Rattle.readers.specs.Document.{comment, section, pair, bytes_of, IsRemark, StartsWithPart}
-use Rattle.readers.specs.Document.{BeginsWith, IsDocument}
+use Rattle.readers.specs.Document.{BeginsWith}
+use Rattle.readers.specs.Document.{IsDocument}
 use Rattle.readers.proofs.PairLemmas.{All-middle, not_none, mark_is_no_key}
 
 -- the longest front of bytes of P is one

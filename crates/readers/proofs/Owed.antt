@@ -1,8 +1,9 @@
 -- A proof that the written output meets the contract of a run of the program.
 use Rattle.std.proofs.Common.{◌≡◌, ◌≤◌, ◌∙◌, Bool, ℕ, List, [], ◌∷◌, length, Option, Some, None}
-use Rattle.std.proofs.Common.{inl, inr, refl, sym, ap, subst, arith, ◌+◌}
+use Rattle.std.proofs.Common.{inl, inr, refl, sym, ap, subst, arith}
 use Rattle.std.specs.Borrow.{Bor}
 use Rattle.std.specs.Prelude.{IfSome, ◌↔◌}
+use Rattle.std.proofs.Common.{◌+◌}
 use Rattle.std.proofs.KnownBytes.{Keeps-refl}
 use Rattle.readers.specs.declared.program.Stop.{Stop}
 use Rattle.readers.specs.declared.program.Stop.TheVariants.{Usage, Unreadable, Unwritable, TooLong}

@@ -1,6 +1,6 @@
 -- Lemmas about the calls of the parsers of a document's parts.
-use Rattle.std.proofs.Common.{◌≡◌, ◌⊎◌, ◌<◌, ◌∙◌, ℕ, Bool, true, false, List, [], ◌∷◌, ◌++◌, length}
-use Rattle.std.proofs.Common.{None, refl, sym, ap, subst, arith, inl, inr, append_assoc}
+use Rattle.std.proofs.Common.{◌≡◌, ◌⊎◌, ◌<◌, ◌∙◌, ℕ, Bool, true, false, List, [], ◌∷◌, ◌++◌}
+use Rattle.std.proofs.Common.{length, None, refl, sym, ap, subst, arith, inl, inr, append_assoc}
 use Rattle.std.proofs.Common.{length-append}
 use Rattle.std.specs.List.{All}
 use Rattle.std.specs.Prelude.{IsTrue, ◌↔◌}
@@ -23,8 +23,10 @@ use Rattle.winnow.specs.Inversion.Takes.{TooFew, Took, none_first, tells_of, too
 use Rattle.winnow.specs.Stream.{AnswersSeen}
 use Rattle.readers.specs.Pair.{IsKeyByte}
 use Rattle.readers.specs.Document.{IsWhite, IsCommentByte, IsNameByte, IsValueByte, NotFirst}
-use Rattle.readers.specs.Document.{EndsLine, Part, white, comment, section, pair, bytes_of}
-use Rattle.readers.specs.Document.{FitsBefore, StartsWithPart, NoSectionBegins}
+use Rattle.readers.specs.Document.{EndsLine, Part}
+use Rattle.readers.specs.Document.{white, comment, section, pair, bytes_of, FitsBefore}
+use Rattle.readers.specs.Document.{StartsWithPart}
+use Rattle.readers.specs.Document.{NoSectionBegins}
 use Rattle.readers.specs.DocumentRuns.{NoGapBegins, IsFront}
 use Rattle.readers.proofs.DocumentLemmas.{same_front, no_part_of_none}
 

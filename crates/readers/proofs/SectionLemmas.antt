@@ -1,5 +1,6 @@
 -- Lemmas about a section's name, a gap, and pairs with gaps.
-use Rattle.std.proofs.Common.{◌≡◌, ◌≤◌, ◌∙◌, ◌⊎◌, ℕ, List, [], ◌∷◌, ◌++◌, length, None, Ok, Err}
+use Rattle.std.proofs.Common.{◌≡◌, ◌≤◌, ◌∙◌, ◌⊎◌, ℕ, List, [], ◌∷◌, ◌++◌, length, None, Ok}
+use Rattle.std.proofs.Common.{Err}
 use Rattle.std.proofs.Common.{refl, sym, ap, subst, arith, inl, inr}
 use Rattle.std.specs.Prelude.{map}
 use Rattle.std.specs.Borrow.{Bor}
@@ -30,7 +31,8 @@ use Rattle.winnow.specs.Outcome.{backs, outcome_of, took}
 use Rattle.winnow.specs.Sequence.{TerminatedDoes}
 use Rattle.readers.specs.Document.{SectionText, PairBytes, Part, white, comment, section, pair}
 use Rattle.readers.specs.Document.{StartsWithPart, BeginsWith, NoPairBegins, NoSectionBegins}
-use Rattle.readers.specs.Document.{pairs_of, sections_of, NoPairBeforeSections, SectionBegins}
+use Rattle.readers.specs.Document.{pairs_of, sections_of, NoPairBeforeSections}
+use Rattle.readers.specs.Document.{SectionBegins}
 use Rattle.readers.specs.DocumentRuns.{IsGapPart, NoGapBegins, HasNoSection, CategoryRuns, GapRuns}
 use Rattle.readers.specs.DocumentRuns.{BeginsAtSection, KeyValueRuns, PairsRuns, SectionRuns}
 use Rattle.readers.specs.Sections.{pair_text}

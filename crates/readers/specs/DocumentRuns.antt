@@ -9,10 +9,12 @@ use Rattle.winnow.specs.Form.{Answer}
 use Rattle.std.specs.Str.{IsUtf8}
 use Rattle.readers.specs.Pair.{IsKeyByte}
 use Rattle.readers.specs.Document.{IsBlank, IsNameByte, IsValueByte, IsTrailing, NotFirst, NotLast}
-use Rattle.readers.specs.Document.{Part, PairBytes, white, comment, section, pair, StartsWithPart}
-use Rattle.readers.specs.Document.{BeginsWith, BeginsDocument, NoPairBeforeSections, SectionText}
-use Rattle.readers.specs.Document.{pairs_of, sections_of, NoSectionBegins, NoPairBegins}
-use Rattle.readers.specs.Document.{SectionBegins, ReachesSection}
+use Rattle.readers.specs.Document.{Part}
+use Rattle.readers.specs.Document.{PairBytes, white, comment, section, pair, StartsWithPart}
+use Rattle.readers.specs.Document.{BeginsWith}
+use Rattle.readers.specs.Document.{BeginsDocument, NoPairBeforeSections, SectionText, pairs_of}
+use Rattle.readers.specs.Document.{sections_of, NoSectionBegins, NoPairBegins, SectionBegins}
+use Rattle.readers.specs.Document.{ReachesSection}
 
 -- The value is these bytes without trailing spaces, tabs and carriage returns.
 abbrev pub IsWithoutTrailing : List ℕ → List ℕ → Type 0

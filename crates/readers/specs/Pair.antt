@@ -1,5 +1,6 @@
 -- The line of one pair.
-use Rattle.std.specs.Prelude.{◌≡◌, ◌≢◌, ℕ, ◌<◌, ◌≤◌, List, [], ◌∷◌, ◌++◌, length, All, ◌⊎◌}
+use Rattle.std.specs.Prelude.{◌≡◌, ◌≢◌, ℕ, ◌<◌, ◌≤◌, List, [], ◌∷◌, ◌++◌, length, All}
+use Rattle.std.specs.Prelude.{◌⊎◌}
 use Rattle.format_calculator.specs.declared.fault.ReadError.{ReadError}
 use Rattle.format_calculator.specs.declared.fault.ReadError.TheVariants.{Invalid, NoMemory}
 

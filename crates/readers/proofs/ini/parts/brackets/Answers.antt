@@ -1,4 +1,5 @@
-use Rattle.std.proofs.Common.{ap, ◌∙◌, ◌∷◌, sym, refl, inl, inr, List, ℕ, Err, subst}
+use Rattle.std.proofs.Common.{ap, ◌∙◌, ◌∷◌, sym, refl, inl, inr, List, ℕ}
+use Rattle.std.proofs.Common.{Err, subst}
 use Rattle.winnow.specs.ByteSet.{has_byte}
 use Rattle.winnow.specs.Inversion.Outcomes.{fails_at}
 use Rattle.winnow.specs.Inversion.Sequences.{three_err, three_ok}
