@@ -68,6 +68,10 @@ fn maps() {
         "{\"a\" 1}",
         "{\"a\":1 \"b\":2}",
     ]);
+}
+
+#[test]
+fn keys() {
     accepts(&[("{\"1\":2,\"255\":0}", BTreeMap::from([(1u8, 2u8), (255, 0)]))]);
     rejects::<BTreeMap<u8, u8>>(&[
         "{\"256\":1}",
@@ -172,6 +176,10 @@ fn enums() {
         ("{\"Fields\":[1]}", Fields { a: 1 }),
         ("{\"Fields\":{\"b\":[],\"a\":1}}", Fields { a: 1 }),
     ]);
+}
+
+#[test]
+fn invalid_enums() {
     rejects::<Shape>(&[
         "{\"Unit\":1}",
         "{\"Unit\":{}}",
@@ -204,6 +212,11 @@ fn enums() {
         "{\"X\":1}",
         "[\"Unit\"]",
     ]);
+}
+
+#[test]
+fn enums_in_others() {
+    use Shape::*;
     accepts(&[("{\"Unit\":1}", BTreeMap::from([(Unit, 1u8)]))]);
     rejects::<BTreeMap<Shape, u8>>(&["{\"New\":1}", "{\"X\":1}"]);
     accepts(&[("[\"Unit\",{\"New\":1}]", vec![Unit, New(1)])]);

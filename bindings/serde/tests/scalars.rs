@@ -87,6 +87,10 @@ fn doubles() {
         ("1.7976931348623157e308", f64::MAX),
         ("2.2250738585072014e-308", f64::MIN_POSITIVE),
     ]);
+}
+
+#[test]
+fn rounded_doubles() {
     // Integers that no double is equal to; those above 2^64 are read as floats.
     accepts(&[
         ("9007199254740993", 9007199254740992.0f64),
