@@ -1307,6 +1307,7 @@ int main(void)
     test_json();
     test_steps();
     test_nodes();
+    test_node_lookups();
     test_json_extents();
     test_strings();
     test_integers();

@@ -17,6 +17,8 @@ pub mod JsonDiagnostic
 pub mod JsonExtent
 pub mod JsonInteger
 pub mod JsonMember
+pub mod JsonNodes
+pub mod JsonPointer
 pub mod JsonStep
 pub mod JsonString
 pub mod Output

@@ -15,8 +15,10 @@ pub mod decimal;
 pub mod diagnostic;
 pub mod extent;
 pub mod integer;
+pub mod lookup;
 pub mod member;
 pub mod nodes;
+pub mod pointer;
 pub mod step;
 pub mod string;
 
@@ -68,7 +70,7 @@ pub(crate) const NO_ITEM: JsonItem = JsonItem {
 };
 
 /// Returns the number of a type of values.
-fn number_of(kind: Kind) -> u32
+pub(crate) fn number_of(kind: Kind) -> u32
     ensures { result ≡ number_of kind }
 {
     match kind {

@@ -85,15 +85,9 @@ impl<'b> Item<'b> {
     /// Returns the type of the value.
     pub fn kind(&self) -> Kind {
         match self.0.node().kind {
-            exports::JSON_NULL => Kind::Null,
-            exports::JSON_FALSE => Kind::False,
-            exports::JSON_TRUE => Kind::True,
-            exports::JSON_NUMBER => Kind::Number,
             // A name is a string.
-            exports::JSON_STRING | exports::JSON_NAME => Kind::String,
-            exports::JSON_ARRAY => Kind::Array,
-            exports::JSON_OBJECT => Kind::Object,
-            kind => unknown(kind),
+            exports::JSON_NAME => Kind::String,
+            kind => Kind::of(kind),
         }
     }
 
@@ -149,7 +143,7 @@ impl<'b> Item<'b> {
             let text = written.text();
             if text.contains('\\') {
                 let object = self.text();
-                let left = after_name(object, self.0.list.input.1, name, false)?;
+                let left = after_name(object, self.0.list.input.1, name)?;
                 let end = self.0.node().start + object.len() - left.len();
                 let mut members = self.children(Kind::Object);
                 return core::iter::from_fn(|| member(&mut members))
