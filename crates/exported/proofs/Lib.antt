@@ -14,6 +14,8 @@ pub mod JsonDecimals
 pub mod JsonDiagnostics
 pub mod JsonExtent
 pub mod JsonIntegers
+pub mod JsonNodes
+pub mod JsonPointers
 pub mod JsonTexts
 pub mod Nodes
 pub mod Putting

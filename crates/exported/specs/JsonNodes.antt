@@ -1,10 +1,10 @@
 -- Members and elements among the nodes of a JSON text.
-use Rattle.std.specs.Prelude.{⊤, ◌≡◌, ◌≤◌, ◌<◌, ◌+◌, ◌⊎◌, ℕ, suc, Bool, true, false, List, Some}
+use Rattle.std.specs.Prelude.{⊤, ◌≡◌, ◌≤◌, ◌<◌, ◌+◌, ◌⊎◌, ℕ, Bool, true, false, List, Some}
 use Rattle.std.specs.Prelude.{drop, length}
 use Rattle.std.specs.List.{slice_get}
 use Rattle.format_json_extents.specs.Names.{IsCompared}
 use Rattle.format_json_extents.specs.Strings.{IsString}
-use Rattle.format_json_extents.specs.Texts.{NoneStands}
+use Rattle.format_json_extents.specs.Texts.{NoMatchAtStart}
 use Rattle.format_json_extents.specs.declared.node.JsonNode.{JsonNode}
 
 -- `IsAt nodes index it`: the node of this index.
@@ -27,7 +27,7 @@ pub data Leads (Pass : JsonNode → Type 0) (nodes : List JsonNode) (end from : 
     leads_nowhere : Leads Pass nodes end from from 0
     leads_on : (at count : ℕ) (node : JsonNode) → Leads Pass nodes end from at count → at < end
         → IsAt nodes at node → at < node.next → Pass node
-        → Leads Pass nodes end from node.next (suc count)
+        → Leads Pass nodes end from node.next (count + 1)
 
 -- ---- names
 
@@ -44,7 +44,7 @@ IsNameOf false name text node = node.kind ≡ 7 → IsNamed false name text node
 
 -- A name that is not a string of the text.
 abbrev pub IsNoName : List ℕ → JsonNode → Type 0
-IsNoName text node = (node.kind ≡ 7) × NoneStands IsString (drop node.start text)
+IsNoName text node = (node.kind ≡ 7) × NoMatchAtStart IsString (drop node.start text)
 
 -- ---- members
 

@@ -74,7 +74,7 @@ impl<'i> Value<'i> {
 }
 
 /// Returns the text after the first member name that is `name` in an object that was checked.
-pub(super) fn after_name<'i>(object: &'i str, max_depth: usize, name: &str) -> Option<&'i str> {
+fn after_name<'i>(object: &'i str, max_depth: usize, name: &str) -> Option<&'i str> {
     let mut offset = 0;
     // SAFETY: the pointers are those of live borrows, and the bytes are only read. The call takes up to
     // 57 KiB of stack at `MAX_DEPTH` (measured); where there is less, the thread's guard page ends

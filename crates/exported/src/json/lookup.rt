@@ -2,7 +2,7 @@
 
 ghost use Rattle.std.specs.Prelude.{⊤, ◌≡◌, ◌≤◌, ◌<◌, ◌+◌, ◌⊎◌, List, ℕ, IfNone, IfSome};
 ghost use Rattle.std.specs.Prelude.{MatchOption, None, Some, length};
-ghost use Rattle.format_json_extents.specs.Names.{said};
+ghost use Rattle.format_json_extents.specs.Names.{name_text};
 ghost use Rattle.exported.specs.Code.{done, end, invalid};
 ghost use Rattle.exported.specs.JsonMember.{is_set};
 ghost use Rattle.exported.specs.JsonNodes.{BreaksElement, BreaksMember, FindsElement, FindsMember};
@@ -34,16 +34,16 @@ fn end_of(nodes: &[JsonNode], index: usize, kind: u32) -> Option<usize>
 /// Returns whether a node is a name, and the one that is sought; `None` if it is not in the text.
 fn is_name(text: &[u8], node: JsonNode, token: bool, name: &[u8]) -> Option<bool>
     ensures none { IfNone result (IsNoName text.now node) }
-    ensures some { IfSome result (λ same. IsNameOf same (said token name.now) text.now node) }
+    ensures some { IfSome result (λ same. IsNameOf same (name_text token name.now) text.now node) }
 {
     if node.kind != JSON_NAME {
         return Some(false);
     }
     match text.get(node.start..) {
-        Some(bytes) => {
-            let (same, _) = compare(token, bytes, name)?;
-            Some(same)
-        }
+        Some(bytes) => match compare(token, bytes, name) {
+            Some((same, _)) => Some(same),
+            None => None,
+        },
         None => None,
     }
 }
@@ -57,10 +57,10 @@ fn find_member(
     token: bool,
     name: &[u8],
 ) -> Option<Option<usize>>
-    ensures none { IfNone result (BreaksMember (said token name.now) text.now nodes.now index) }
+    ensures none { IfNone result (BreaksMember (name_text token name.now) text.now nodes.now index) }
     ensures some { IfSome result (λ found. MatchOption found
-        (LacksMember (said token name.now) text.now nodes.now index)
-        (FindsMember (said token name.now) text.now nodes.now index)) }
+        (LacksMember (name_text token name.now) text.now nodes.now index)
+        (FindsMember (name_text token name.now) text.now nodes.now index)) }
 {
     let after = end_of(nodes, index, JSON_OBJECT)?;
     let mut at = index + 1;
@@ -73,7 +73,11 @@ fn find_member(
             return None;
         }
         if is_name(text, node, token, name)? {
-            return if node.next < after { Some(Some(node.next)) } else { None };
+            return if node.next < after {
+                Some(Some(node.next))
+            } else {
+                None
+            };
         }
         at = node.next;
     }
@@ -135,11 +139,11 @@ pub extern "C" fn exported_json_node_member(
     out: &mut usize,
 ) -> u32
     ensures found { result ≡ done
-        → FindsMember (said (is_set is_token) name.now) text.now nodes.now index out.new }
+        → FindsMember (name_text (is_set is_token) name.now) text.now nodes.now index out.new }
     ensures missing { result ≡ end
-        → LacksMember (said (is_set is_token) name.now) text.now nodes.now index }
+        → LacksMember (name_text (is_set is_token) name.now) text.now nodes.now index }
     ensures refused { result ≡ invalid
-        → BreaksMember (said (is_set is_token) name.now) text.now nodes.now index }
+        → BreaksMember (name_text (is_set is_token) name.now) text.now nodes.now index }
     ensures none { (result ≡ done → ⊥) → out.new ≡ 0 }
     ensures codes { (result ≡ done) ⊎ ((result ≡ end) ⊎ (result ≡ invalid)) }
 {
