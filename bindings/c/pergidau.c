@@ -232,6 +232,12 @@ uint32_t exported_json_string(
     uint8_t *buffer,
     size_t buffer_length,
     struct pergidau_json_text *out);
+uint32_t exported_json_write_string(
+    const uint8_t *bytes,
+    size_t bytes_length,
+    uint8_t *buffer,
+    size_t buffer_length,
+    size_t *out);
 uint32_t exported_pair_line(
     const uint8_t *bytes,
     size_t bytes_length,
@@ -1762,6 +1768,39 @@ enum pergidau_code pergidau_json_string(
         buffer = &no_buffer;
     }
     return (enum pergidau_code)exported_json_string(bytes, bytes_length, buffer, buffer_length, out);
+}
+
+enum pergidau_code pergidau_json_write_string(
+    const uint8_t *bytes,
+    size_t bytes_length,
+    uint8_t *buffer,
+    size_t buffer_length,
+    size_t *out)
+{
+    const uint8_t no_bytes = {0};
+    uint8_t no_buffer = {0};
+    if (bytes_length > PTRDIFF_MAX / sizeof(uint8_t)) {
+        return PERGIDAU_TOO_LONG;
+    }
+    if (bytes == NULL && bytes_length > 0) {
+        return PERGIDAU_NULL;
+    }
+    if (buffer_length > PTRDIFF_MAX / sizeof(uint8_t)) {
+        return PERGIDAU_TOO_LONG;
+    }
+    if (buffer == NULL && buffer_length > 0) {
+        return PERGIDAU_NULL;
+    }
+    if (out == NULL) {
+        return PERGIDAU_NULL;
+    }
+    if (bytes == NULL) {
+        bytes = &no_bytes;
+    }
+    if (buffer == NULL) {
+        buffer = &no_buffer;
+    }
+    return (enum pergidau_code)exported_json_write_string(bytes, bytes_length, buffer, buffer_length, out);
 }
 
 enum pergidau_code pergidau_pair_line(

@@ -650,6 +650,15 @@ inline result<pergidau_json_text> json_string(input bytes, output buffer) noexce
     return out;
 }
 
+/* Writes bytes as a JSON string (RFC 8259), in quotes. */
+inline result<std::size_t> json_write_string(input bytes, output buffer) noexcept
+{
+    result<std::size_t> out{};
+    out.code = pergidau_json_write_string(
+        bytes.data(), bytes.size(), buffer.data(), buffer.size(), &out.value);
+    return out;
+}
+
 /* Parses a line of the form key=value. */
 inline result<pergidau_pair> pair_line(input bytes) noexcept
 {

@@ -424,6 +424,7 @@ static void read_chunked(const uint8_t *bytes, size_t length)
 #include "json_lookup_fuzz.h"
 #include "json_nodes_fuzz.h"
 #include "json_pointer_fuzz.h"
+#include "json_write_fuzz.h"
 #include "resp_nodes_fuzz.h"
 #include "toml_fuzz.h"
 #include "writing_fuzz.h"
@@ -464,6 +465,7 @@ static void read_all(const uint8_t *bytes, size_t length)
     read_toml(bytes, length);
     read_place(bytes, length);
     write_slices(bytes, length);
+    write_string(bytes, length);
     read_dns(bytes, length);
 }
 

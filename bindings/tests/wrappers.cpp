@@ -157,6 +157,7 @@ static void json_and_toml()
     EXPECT(*pergidau::json_node_element(nodes, 2, 0) == 3);
     EXPECT(pergidau::json_step("[1]")->kind == PERGIDAU_JSON_BEGIN_ARRAY);
     EXPECT(pergidau::json_string("\"\\u0061\"", buffer)->text == 1 && buffer[0] == 'a');
+    EXPECT(*pergidau::json_write_string("a\"\n", buffer) == 7);
     pergidau_json_value_state state{};
     EXPECT(*pergidau::json_extent(state, " [1] 2", 0, buffer) == 4);
     EXPECT(*pergidau::json_extent(state, " 2", 1, buffer) == 2);

@@ -2517,6 +2517,37 @@ extern "C" {
         out: *mut JsonText,
     ) -> u32;
 
+    /// Writes bytes as a JSON string (RFC 8259), in quotes. A quote, a backslash and the bytes below 32 are
+    /// escaped as in RFC 8785, section 3.2.2.2: by `\"`, `\\`, `\b`, `\f`, `\n`, `\r`, `\t`, or `\u00`
+    /// and two digits with small letters. All other bytes are unchanged.
+    ///
+    /// The string is JSON if the bytes are UTF-8, which is not checked. It has at most six bytes for each
+    /// byte, and two more. `exported_json_string` reads the same bytes from it, whatever follows.
+    ///
+    /// `DONE`: the string is written at the start of `buffer`, and its length into `out`. The other bytes
+    /// of the buffer are unchanged.
+    ///
+    /// The function does not allocate. It scans the bytes twice, so that it writes nothing if the buffer is
+    /// too small.
+    ///
+    /// # Errors
+    ///
+    /// `BUFFER_TOO_SMALL`: the string is longer than the buffer. Its length is written, and the buffer is
+    /// unchanged.
+    ///
+    /// # Safety
+    ///
+    /// `bytes` must be valid for reads of `bytes_length` bytes, which must not change during the call.
+    /// `buffer` must be valid for writes of `buffer_length` bytes, and `out` for writes of one length.
+    /// None of these may overlap. The call needs 16 KiB of stack.
+    pub fn exported_json_write_string(
+        bytes: *const u8,
+        bytes_length: usize,
+        buffer: *mut u8,
+        buffer_length: usize,
+        out: *mut usize,
+    ) -> u32;
+
     /// Parses a line of the form `key=value`. For lines of INI files, use `exported_ini_next`.
     ///
     /// The key consists of one or more ASCII letters or digits.

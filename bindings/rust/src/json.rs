@@ -37,6 +37,7 @@ mod lookup;
 mod nodes;
 mod scalars;
 mod steps;
+mod write;
 
 pub use diagnostic::{diagnose, Diagnostic, Expected};
 pub use extent::Extent;
@@ -45,6 +46,9 @@ pub use nodes::{nodes, Item, ItemElements, ItemMembers, Node, Nodes};
 pub use nodes::OwnedNodes;
 pub use scalars::{unescape, Decimal};
 pub use steps::{steps, Step, Steps};
+#[cfg(feature = "alloc")]
+pub use write::append_string;
+pub use write::write_string;
 
 /// The type of a value.
 #[derive(Clone, Copy, Debug, PartialEq, Eq)]

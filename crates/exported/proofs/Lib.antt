@@ -17,6 +17,7 @@ pub mod JsonIntegers
 pub mod JsonNodes
 pub mod JsonPointers
 pub mod JsonTexts
+pub mod JsonWrite
 pub mod Nodes
 pub mod Putting
 pub mod RecordExtent

@@ -21,6 +21,7 @@ pub mod JsonNodes
 pub mod JsonPointer
 pub mod JsonStep
 pub mod JsonString
+pub mod JsonWrite
 pub mod Output
 pub mod Pairs
 pub mod Resp

@@ -21,6 +21,7 @@ pub mod nodes;
 pub mod pointer;
 pub mod step;
 pub mod string;
+pub mod write;
 
 use crate::code::{DONE, END, INVALID, INVALID_UTF8, MAX_DEPTH_TOO_LARGE};
 use crate::span::{NOWHERE, Span};
