@@ -63,35 +63,6 @@ other_more found field fields text not = (there, back)
     back (inr (inl x)) = absurd (not x.0)
     back (inr (inr x)) = inr x
 
--- a field of the name
-has_front : (name : List ℕ) (before : List Field) (field : Field) (behind : List Field)
-    → IsNamed name field.name.now → HasOne name (map pair (before ++ field ∷ behind))
-has_front name [] field behind named = inl named
-has_front name (other ∷ before) field behind named =
-    inr (has_front name before field behind named)
-
--- no field has the name
-none_has : (name : List ℕ) (fields : List Field) → HasNo name fields
-    → HasOne name (map pair fields) → ⊥
-none_has name [] none has = has
-none_has name (field ∷ fields) none (inl named) =
-    All-head (λ f. IsNamed name f.name.now → ⊥) field fields none named
-none_has name (field ∷ fields) none (inr has) =
-    none_has name fields (All-tail (λ f. IsNamed name f.name.now → ⊥) field fields none) has
-
--- so the first field of a name says whether there is one
-pub has_told : (name : List ℕ) (fields : List Field) (found : Option Field) (some : Bool)
-    → IfSome found (λ field. (behind : List Field) × IsNext name fields field behind)
-    → (found ≡ None → HasNo name fields) → some ≡ is_some found
-    → IsTrue some ↔ HasOne name (map pair fields)
-has_told name fields (Some field) some (behind, next) none is = (
-  (λ t. subst (λ l. HasOne name (map pair l)) (sym next.splits)
-      (has_front name next.before field behind next.is_named)),
-  (λ x. is),
-)
-has_told name fields None some has none is =
-    ((λ t. true_is_false (sym t ∙ is)), (λ x. absurd (none_has name fields (none refl) x)))
-
 -- what a field of the name has, all have
 pub field_has : (found : Option (Bor (List ℕ))) (field : Pair) (fields : List Pair)
     (text : List ℕ) → IsNamed content_length field.0
