@@ -2,6 +2,7 @@
 use crate::heads::{HEADS, same};
 use crate::responses;
 use format_http::bodies::framing::{BodyLength, FramingError, Message, body_length};
+use format_http::heads::field_line;
 use format_http::heads::fields::Fields;
 use format_http_places::places::{Field, Span};
 use format_http_places::read::read_head_into;
@@ -40,15 +41,10 @@ fn slice_at_of_spans(rt: HostRuntime) {
 fn same_fields(rt: &impl Abort, bytes: &[u8], fields: &[Field], want: &[(&[u8], &[u8])]) {
     let mut left = FieldsAt { bytes, fields };
     for pair in want {
-        match left.first_and_rest() {
-            Some((field, more)) => {
-                same(rt, bytes, (field.name, field.value), *pair);
-                left = more;
-            }
-            None => same(rt, bytes, 0, 1),
-        }
+        let found = left.next();
+        same(rt, bytes, found, Some(field_line::Field { name: pair.0, value: pair.1 }));
     }
-    same(rt, bytes, left.first_and_rest(), None);
+    same(rt, bytes, left.next(), None);
 }
 
 #[test]

@@ -28,13 +28,12 @@ fn has_option<'i, F: Fields<'i>>(option: &[u8], fields: F) -> bool
     ensures { IsTrue result ↔ HasOption option.now (F.pairs fields) }
 {
     let mut left = fields;
-    'passed: while let Some((field, more)) = left.first_and_rest() {
+    'passed: while let Some(field) = left.next() {
         if field.name.eq_ignore_ascii_case(b"connection".as_slice())
             && is_option(option, field.value)
         {
             return true;
         }
-        left = more;
     }
     false
 }

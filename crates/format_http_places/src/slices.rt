@@ -68,14 +68,16 @@ impl<'i, 'f> Fields<'i> for FieldsAt<'i, 'f> {
     ghost pairs = { λ at. map (pair_at at.bytes.now) at.fields.now };
 
     #[inline(always)]
-    fn first_and_rest(self) -> Option<(field_line::Field<'i>, FieldsAt<'i, 'f>)> {
-        match self.fields.split_first() {
-            Some((first, fields)) => {
-                let name = slice_at(self.bytes, first.name);
-                let value = slice_at(self.bytes, first.value);
-                Some((field_line::Field { name, value }, FieldsAt { fields, ..self }))
+    fn next(&mut self) -> Option<field_line::Field<'i>> {
+        let all = *self;
+        match all.fields {
+            [] => None,
+            [first, rest @ ..] => {
+                self.fields = rest;
+                let name = slice_at(all.bytes, first.name);
+                let value = slice_at(all.bytes, first.value);
+                Some(field_line::Field { name, value })
             }
-            None => None,
         }
     }
 }

@@ -2,24 +2,26 @@
 //! reading the head again (RFC 9112, sections 3.2, 6.3 and 9.3).
 
 ghost use Rattle.std.specs.Prelude.{◌≡◌, ◌⊎◌, ◌↔◌, IsTrue, MatchOption, take};
+ghost use Rattle.format_http.specs.Heads.Head.{request};
 ghost use Rattle.format_http_places.specs.Places.{ShowsHead};
 ghost use Rattle.format_http_places.specs.Responses.{ShowsResponse};
 ghost use Rattle.exported.specs.Code.{done, invalid};
 ghost use Rattle.exported.specs.Http.{places_of, response_of};
 ghost use Rattle.exported.specs.HttpFraming.{FramesLine, FramesStatus, HasNoHost, HasOneHost};
 ghost use Rattle.exported.specs.HttpFraming.{IsDelimited, IsFirstValue, IsNextHost, IsPlaceOf};
-ghost use Rattle.exported.specs.HttpFraming.{IsRejectedAt, IsSecondName, fields_at, line_at};
-ghost use Rattle.exported.specs.HttpFraming.{nowhere, status_at};
+ghost use Rattle.exported.specs.HttpFraming.{IsRejectedAt, IsSecondName, Remains, fields_at};
+ghost use Rattle.exported.specs.HttpFraming.{line_at, nowhere, status_at};
 
 use crate::http::Head;
 use crate::http::body::{HttpBody, request_of, response_of};
 use crate::http::response::ResponseHead;
 use format_http::bodies::framing::{BodyLength, Message, body_length};
 use format_http::bodies::refusals::{Reason, request_framing};
+use format_http::heads::fields::Fields;
 use format_http::heads::hosts::HostError;
 use format_http::heads::request_line::RequestLine;
 use format_http::persistence::persists;
-use format_http_places::places::{Field, Span};
+pub use format_http_places::places::{Field, Span};
 use format_http_places::slices::{FieldsAt, slice_at, slices_are_those_of_the_head};
 
 /// Where a message ends, or why it must be rejected, and whether the connection persists after it.
@@ -113,6 +115,34 @@ fn is_delimited(length: BodyLength) -> bool
     }
 }
 
+/// Returns whether a message of this version with these fields and this length, or error, leaves the
+/// connection open.
+fn remains<'i, F: Fields<'i>, E: Copy + Drop>(
+    major: u8,
+    minor: u8,
+    fields: F,
+    found: Result<BodyLength, E>,
+) -> bool
+    ensures { IsTrue result ↔ Remains major minor (F.pairs fields) found }
+{
+    match found {
+        Ok(length) => is_delimited(length) && persists(major, minor, fields),
+        Err(_) => false,
+    }
+}
+
+/// Returns the request line at the positions of a head.
+fn request_line<'i>(bytes: &'i [u8], head: &Head) -> RequestLine<'i>
+    ensures { request result ≡ line_at bytes.now head.now }
+{
+    RequestLine {
+        method: slice_at(bytes, head.method),
+        target: slice_at(bytes, head.target),
+        major: head.major,
+        minor: head.minor,
+    }
+}
+
 /// Determines where the request ends whose head `exported_http_head` or
 /// `exported_http_head_partial` wrote for these bytes, or why a server must respond with status 400
 /// and close the connection, and whether the connection persists. It does not parse the head again.
@@ -155,22 +185,13 @@ pub extern "C" fn exported_http_request_framing(
 {
     slices_are_those_of_the_head();
     let fields = first(fields, head.fields);
-    let line = RequestLine {
-        method: slice_at(bytes, head.method),
-        target: slice_at(bytes, head.target),
-        major: head.major,
-        minor: head.minor,
-    };
     let read = FieldsAt { bytes, fields };
-    let found = request_framing(&line, read);
+    let found = request_framing(&request_line(bytes, head), read);
     let (code, body) = request_of(found);
     *out = HttpFraming {
         body,
         rejected: rejected_at(bytes, fields, head.target, found),
-        persists: match found {
-            Ok(length) => is_delimited(length) && persists(head.major, head.minor, read),
-            Err(_) => false,
-        },
+        persists: remains(head.major, head.minor, read, found),
     };
     code
 }
@@ -225,10 +246,7 @@ pub extern "C" fn exported_http_response_framing(
     *out = HttpFraming {
         body,
         rejected: NOWHERE,
-        persists: match found {
-            Ok(length) => is_delimited(length) && persists(head.major, head.minor, read),
-            Err(_) => false,
-        },
+        persists: remains(head.major, head.minor, read, found),
     };
     code
 }

@@ -16,6 +16,10 @@ use Rattle.format_http.specs.declared.heads.field_line.Field.{Field}
 pub both_ways : {P Q R : Type 0} → (P ↔ Q) → (Q ↔ R) → P ↔ R
 both_ways x y = ((λ p. y.0 (x.0 p)), (λ r. x.1 (y.1 r)))
 
+-- the first of two does not hold
+pub skipped : {P Q : Type 0} → (P → ⊥) → Q ↔ (P ⊎ Q)
+skipped not = ((λ q. inr q), (λ x. elim x [ inl p ↦ absurd (not p) | inr q ↦ q ]))
+
 -- the element of a part is one of the whole
 pub part_has : (element part : List ℕ) (parts whole : List (List ℕ)) (text : List ℕ)
     → whole ≡ part ∷ parts → (IsElement text part ↔ element ≡ text) → element ≡ text

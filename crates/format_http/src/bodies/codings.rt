@@ -86,17 +86,16 @@ pub(crate) fn end_chunked<'i, F: Fields<'i>>(fields: F) -> Option<bool>
         plain: false,
     };
     let mut left = fields;
-    'passed: while let Some((field, more)) = left.first_and_rest() {
+    'passed: while let Some(field) = left.next() {
         if field
             .name
             .eq_ignore_ascii_case(b"transfer-encoding".as_slice())
         {
             match codings_so_far(now, field.value) {
-                Some(last) => now = last,
+                Some(more) => now = more,
                 None => return None,
             }
         }
-        left = more;
     }
     Some(now.plain)
 }

@@ -11,11 +11,10 @@ pub(crate) fn has<'i, F: Fields<'i>>(fields: F, name: &[u8]) -> bool
     ensures { IsTrue result ↔ HasOne name.now (F.pairs fields) }
 {
     let mut left = fields;
-    'passed: while let Some((field, more)) = left.first_and_rest() {
+    'passed: while let Some(field) = left.next() {
         if field.name.eq_ignore_ascii_case(name) {
             return true;
         }
-        left = more;
     }
     false
 }

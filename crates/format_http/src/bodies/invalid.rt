@@ -30,7 +30,7 @@ pub(crate) fn have_invalid<'i, F: Fields<'i>>(fields: F) -> bool
     ensures { IsTrue result ↔ HaveInvalid (F.pairs fields) }
 {
     let mut left = fields;
-    'passed: while let Some((field, more)) = left.first_and_rest() {
+    'passed: while let Some(field) = left.next() {
         if field
             .name
             .eq_ignore_ascii_case(b"transfer-encoding".as_slice())
@@ -38,7 +38,6 @@ pub(crate) fn have_invalid<'i, F: Fields<'i>>(fields: F) -> bool
         {
             return true;
         }
-        left = more;
     }
     false
 }

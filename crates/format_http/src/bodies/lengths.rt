@@ -67,7 +67,7 @@ fn one_length<'i, F: Fields<'i>>(fields: F) -> Result<Option<&'i [u8]>, FramingE
 {
     let mut one = None;
     let mut left = fields;
-    'passed: while let Some((field, more)) = left.first_and_rest() {
+    'passed: while let Some(field) = left.next() {
         if field
             .name
             .eq_ignore_ascii_case(b"content-length".as_slice())
@@ -77,7 +77,6 @@ fn one_length<'i, F: Fields<'i>>(fields: F) -> Result<Option<&'i [u8]>, FramingE
                 Err(fault) => return Err(fault),
             }
         }
-        left = more;
     }
     Ok(one)
 }

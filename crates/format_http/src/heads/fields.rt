@@ -6,7 +6,7 @@ ghost use Rattle.std.specs.Prelude.{◌≡◌, ◌∷◌, [], List, MatchOption,
 
 use crate::heads::field_line::Field;
 
-/// Consecutive fields, which are read in order: by the functions that look for fields of a name.
+/// Consecutive fields, which the functions that look for fields of a name read in order.
 ///
 /// A slice of fields is one. Another makes each field when it is read, so that a head whose fields
 /// are held in another form need not be copied.
@@ -16,27 +16,32 @@ use crate::heads::field_line::Field;
 /// use format_http::heads::fields::Fields;
 ///
 /// let fields = [Field { name: b"Host", value: b"a" }, Field { name: b"Via", value: b"b" }];
-/// let (first, rest) = fields.as_slice().first_and_rest().unwrap_or((fields[1], &[]));
-/// assert!(rt; first == fields[0] && rest == &fields[1..]);
+/// let mut left = fields.as_slice();
+/// assert!(rt; left.next() == Some(fields[0]));
+/// assert!(rt; left == &fields[1..]);
 /// ```
 pub trait Fields<'i>: Copy + Drop {
     // The names and values.
     ghost pairs: { Self → List Pair };
 
-    /// Returns the first field and those after it, or `None` if there is none.
-    fn first_and_rest(self) -> Option<(Field<'i>, Self)>
-        ensures { MatchOption result (pairs self ≡ [])
-            (λ found. pairs self ≡ pair found.0 ∷ pairs found.1) };
+    /// Takes the first field, or returns `None` if there is none.
+    fn next(&mut self) -> Option<Field<'i>>
+        ensures { MatchOption result (pairs self.old ≡ [])
+            (λ field. pairs self.old ≡ pair field ∷ pairs self.new) };
 }
 
 impl<'f, 'i> Fields<'i> for &'f [Field<'i>] {
     ghost pairs = { λ fields. map pair fields.now };
 
     #[inline(always)]
-    fn first_and_rest(self) -> Option<(Field<'i>, &'f [Field<'i>])> {
-        match self.split_first() {
-            Some((first, rest)) => Some((*first, rest)),
-            None => None,
+    fn next(&mut self) -> Option<Field<'i>> {
+        let all = *self;
+        match all {
+            [] => None,
+            [first, rest @ ..] => {
+                *self = rest;
+                Some(*first)
+            }
         }
     }
 }

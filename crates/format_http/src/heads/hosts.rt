@@ -33,11 +33,10 @@ fn hosts_in<'i, F: Fields<'i>>(fields: F) -> usize
 {
     let mut hosts = 0;
     let mut left = fields;
-    'passed: while let Some((field, more)) = left.first_and_rest() {
+    'passed: while let Some(field) = left.next() {
         if field.name.eq_ignore_ascii_case(b"host".as_slice()) && hosts < 2 {
             hosts += 1;
         }
-        left = more;
     }
     hosts
 }
@@ -47,11 +46,10 @@ fn has_invalid_host<'i, F: Fields<'i>>(fields: F) -> bool
     ensures { IsTrue result ↔ HasInvalidHost (F.pairs fields) }
 {
     let mut left = fields;
-    'passed: while let Some((field, more)) = left.first_and_rest() {
+    'passed: while let Some(field) = left.next() {
         if field.name.eq_ignore_ascii_case(b"host".as_slice()) && !is_host(field.value) {
             return true;
         }
-        left = more;
     }
     false
 }

@@ -5,7 +5,7 @@ use Rattle.format_http.proofs.bodies.codings.end_chunked.Given as goal
 
 abbrev pub invariant-passed : goal.invariant-passed
 invariant-passed g l =
-    AreSame l.now.chunked l.now.plain (g.F.Fields.pairs l.left) (g.F.Fields.pairs l.fields)
+    AreSame l.now.chunked l.now.plain (g.F.Fields.pairs l.left) (g.F.Fields.pairs l.fn.fields)
 
 abbrev pub decreases-passed : goal.decreases-passed
 decreases-passed g l = length (g.F.Fields.pairs l.left)

@@ -8,7 +8,7 @@ use Rattle.format_http.proofs.bodies.lengths.one_length.Given as goal
 abbrev pub invariant-passed : goal.invariant-passed
 invariant-passed g l =
     (text : List ℕ) → (IsThe l.one text ⊎ HasLength text (g.F.Fields.pairs l.left))
-    ↔ HasLength text (g.F.Fields.pairs l.fields)
+    ↔ HasLength text (g.F.Fields.pairs l.fn.fields)
 
 abbrev pub decreases-passed : goal.decreases-passed
 decreases-passed g l = length (g.F.Fields.pairs l.left)

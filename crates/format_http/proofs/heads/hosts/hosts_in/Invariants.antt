@@ -7,7 +7,7 @@ use Rattle.format_http.proofs.heads.hosts.hosts_in.Given as goal
 abbrev pub invariant-passed : goal.invariant-passed
 invariant-passed g l =
     (before : ℕ) × ((more : ℕ) → AreHosts (g.F.Fields.pairs l.left) more
-    → AreHosts (g.F.Fields.pairs l.fields) (before + more))
+    → AreHosts (g.F.Fields.pairs l.fn.fields) (before + more))
     × ((l.hosts ≡ before) ⊎ ((l.hosts ≡ 2) × (2 < before)))
 
 abbrev pub decreases-passed : goal.decreases-passed

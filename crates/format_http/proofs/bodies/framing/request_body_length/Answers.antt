@@ -1,0 +1,13 @@
+use Rattle.std.proofs.Common.{List, map, subst}
+use Rattle.format_http.specs.Bodies.Framing.{IsBodyLength}
+use Rattle.format_http.specs.Heads.Head.{pair}
+use Rattle.format_http.specs.declared.bodies.framing.Message.TheVariants.{Request}
+use Rattle.format_http.specs.declared.heads.field_line.Field.{Field}
+use Rattle.format_http.proofs.bodies.framing.request_body_length.Goals as goal
+
+pub returns : goal.returns
+returns g c =
+    let line = c.args.head.now.line in
+    let P : List Field → Type 0 =
+    λ l. IsBodyLength Request line.major line.minor (map pair l) c.body_length.result in
+    subst P c.as_slice.ensures.value c.body_length.ensures
