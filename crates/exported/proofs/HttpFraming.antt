@@ -210,6 +210,7 @@ frames_response method bytes head places code out shows fields frames = record {
 
     told : of shows.line.status shows.line.major shows.line.minor shows.fields
     told = subst (λ l. of shows.line.status shows.line.major shows.line.minor l) fields
-        (subst (λ n. of shows.line.status shows.line.major n (map (pair_at bytes) places)) shows.minor
+        (subst (λ n. of shows.line.status shows.line.major n (map (pair_at bytes) places))
+                shows.minor
         (subst (λ n. of shows.line.status n head.minor (map (pair_at bytes) places)) shows.major
         (subst (λ n. of n head.major head.minor (map (pair_at bytes) places)) shows.status frames)))

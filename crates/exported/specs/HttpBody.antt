@@ -73,7 +73,8 @@ WritesRequest (Err why) code out = (code ≡ invalid) × HasError out (reason_nu
 abbrev pub fields_of : Head Global → List Pair
 fields_of head = map pair head.fields.items
 
--- `FramesRequest bytes code out`: `bytes` starts with the head of a request. `code` and `out` report
+-- `FramesRequest bytes code out`: `bytes` starts with the head of a request. `code` and `out`
+-- report
 -- the length of its body, or the reason to reject it.
 pub record FramesRequest (bytes : List ℕ) (code : ℕ) (out : HttpBody) : Type 0 where
   pub head : Head Global
@@ -89,7 +90,8 @@ NoRequest bytes = (head : Head Global) (rest : List ℕ) → HeadStands bytes he
 
 -- `RejectsRequest bytes code out`: `out` has the reason to reject the request.
 abbrev pub RejectsRequest : List ℕ → ℕ → HttpBody → Type 0
-RejectsRequest bytes code out = (NoRequest bytes × HasError out 1) ⊎ FramesRequest bytes code out
+RejectsRequest bytes code out =
+    (NoRequest bytes × HasError out 1) ⊎ FramesRequest bytes code out
 
 -- ---- responses
 

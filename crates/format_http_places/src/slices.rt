@@ -33,9 +33,9 @@ pub fn slice_at(bytes: &[u8], span: Span) -> &[u8]
     &rest[..span.length.min(rest.len())]
 }
 
-/// The fields that were read from these bytes, in order. So [`request_framing`], [`body_length`] and
-/// [`persists`] of `format_http` take the fields of a head without reading it again. It does not
-/// allocate.
+/// The fields that were read from these bytes, in order. So [`request_framing`], [`body_length`]
+/// and [`persists`] of `format_http` take the fields of a head without reading it again. It does
+/// not allocate.
 ///
 /// A position that is not within the bytes is read as by [`slice_at`].
 ///

@@ -115,8 +115,8 @@ fn is_delimited(length: BodyLength) -> bool
     }
 }
 
-/// Returns whether a message of this version with these fields and this length, or error, leaves the
-/// connection open.
+/// Returns whether a message of this version with these fields and this length, or error, leaves
+/// the connection open.
 fn remains<'i, F: Fields<'i>, E: Copy + Drop>(
     major: u8,
     minor: u8,

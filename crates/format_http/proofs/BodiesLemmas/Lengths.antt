@@ -1,17 +1,12 @@
 -- Lemmas about one step of the search for the length.
-use Rattle.std.specs.Prelude.{◌≡◌, ◌⊎◌, ◌↔◌, ◌++◌, ℕ, List, [], ◌∷◌, Option, Some, None, map}
-use Rattle.std.specs.Prelude.{Bool, IfSome, IsTrue}
-use Rattle.std.specs.Option.{is_some}
+use Rattle.std.specs.Prelude.{◌≡◌, ◌⊎◌, ◌↔◌, ℕ, List, ◌∷◌, Option}
 use Rattle.std.specs.Borrow.{Bor}
-use Rattle.streams.specs.Equal.{true_is_false}
-use Rattle.std.proofs.Common.{refl, sym, subst, ◌∙◌, inl, inr}
-use Rattle.std.proofs.lemmas.List.Elements.{All-head, All-tail}
+use Rattle.std.proofs.Common.{sym, subst, inl, inr}
 use Rattle.format_http.specs.Bodies.Lengths.{HasLength}
 use Rattle.format_http.specs.Bodies.Lists.{HasElement, IsElement, IsThe, parts_of}
-use Rattle.format_http.specs.Bodies.Fields.{HasOne, content_length}
-use Rattle.format_http.specs.Heads.Head.{Pair, pair}
-use Rattle.format_http.specs.Heads.Named.{HasNo, IsNamed, IsNext}
-use Rattle.format_http.specs.declared.heads.field_line.Field.{Field}
+use Rattle.format_http.specs.Bodies.Fields.{content_length}
+use Rattle.format_http.specs.Heads.Head.{Pair}
+use Rattle.format_http.specs.Heads.Named.{IsNamed}
 
 pub both_ways : {P Q R : Type 0} → (P ↔ Q) → (Q ↔ R) → P ↔ R
 both_ways x y = ((λ p. y.0 (x.0 p)), (λ r. x.1 (y.1 r)))

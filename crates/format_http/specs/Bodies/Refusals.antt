@@ -1,6 +1,6 @@
 -- The requests of HTTP/1.1 that a server must reject because of their heads (RFC 9112, sections 3.2
 -- and 6).
-use Rattle.std.specs.Prelude.{List, Option, Result, Some, None, Ok, Err}
+use Rattle.std.specs.Prelude.{List, Result, Some, None, Ok, Err}
 use Rattle.format_http.specs.Bodies.Framing.{IsBodyLength}
 use Rattle.format_http.specs.Heads.Head.{Pair, Request as Line}
 use Rattle.format_http.specs.Heads.Hosts.{HasHostError}

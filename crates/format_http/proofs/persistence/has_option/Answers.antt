@@ -25,7 +25,8 @@ returns-then-is_option g c =
 pub passed-preserved : goal.passed-preserved
 passed-preserved g c =
     let P : List Pair → Type 0 =
-    λ l. HasOption c.args.option.now l ↔ HasOption c.args.option.now (g.F.Fields.pairs c.args.fields) in
+    λ l. HasOption c.args.option.now l
+    ↔ HasOption c.args.option.now (g.F.Fields.pairs c.args.fields) in
     let spelled = ap (λ l. map to_ascii_lowercase l) c.as_slice.ensures in
     both_ways (skipped (λ (named, is). elim c.else-eq_ignore_ascii_case.branch [
       | else-eq_ignore_ascii_case-via-then-eq_ignore_ascii_case+else-is_option w ↦
@@ -37,6 +38,7 @@ passed-preserved g c =
 pub returns : goal.returns
 returns g c =
     let P : List Pair → Type 0 =
-    λ l. HasOption c.args.option.now l ↔ HasOption c.args.option.now (g.F.Fields.pairs c.args.fields) in
+    λ l. HasOption c.args.option.now l
+    ↔ HasOption c.args.option.now (g.F.Fields.pairs c.args.fields) in
     let is = subst P c.in_default.ensures c.passed.invariant in
     ((λ e. absurd (true_is_false (sym e))), (λ x. absurd (is.1 x)))

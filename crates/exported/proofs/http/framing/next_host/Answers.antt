@@ -1,4 +1,5 @@
-use Rattle.std.proofs.Common.{[], ap, append-nil, append_assoc, map, refl, subst, sym, ◌++◌, ◌∙◌, ◌∷◌}
+use Rattle.std.proofs.Common.{[], ap, append-nil, append_assoc, map, refl, subst, sym, ◌++◌, ◌∙◌}
+use Rattle.std.proofs.Common.{◌∷◌}
 use Rattle.std.specs.Char.{to_ascii_lowercase}
 use Rattle.winnow.specs.Equal.{true_is_false}
 use Rattle.exported.proofs.HttpFraming.{host_more}

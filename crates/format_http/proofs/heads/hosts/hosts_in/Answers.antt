@@ -1,4 +1,4 @@
-use Rattle.std.proofs.Common.{ap, arith, inl, inr, refl, subst, suc, sym, ◌∙◌, ◌+◌, ◌≡◌, ℕ}
+use Rattle.std.proofs.Common.{ap, arith, inl, inr, refl, subst, suc, sym, ◌∙◌, ◌+◌, ℕ}
 use Rattle.std.specs.Char.{to_ascii_lowercase}
 use Rattle.std.specs.Prelude.{List, map}
 use Rattle.format_http.specs.Heads.Head.{Pair}
@@ -25,7 +25,7 @@ passed-preserved-then-hosts-lt2 g c =
         are,
       ))),
       elim is [
-        | inl e ↦ inl (omega (arith, e))
+        | inl (e, few) ↦ inl (omega (arith, e), omega (arith, e, c.if-hosts-lt2.true))
         | inr (e, many) ↦ absurd (omega (arith, e, c.if-hosts-lt2.true))
       ],
     )
@@ -47,7 +47,10 @@ passed-preserved g c =
           are,
         ))),
         elim is [
-          | inl e ↦ inr (omega (arith, e, w.if-hosts-lt2.false), omega (arith, e, w.if-hosts-lt2.false))
+          | inl (e, few) ↦ inr (
+            omega (arith, e, few, w.if-hosts-lt2.false),
+            omega (arith, e, w.if-hosts-lt2.false),
+          )
           | inr (e, many) ↦ inr (e, omega (arith, many))
         ],
       )
@@ -66,5 +69,8 @@ pub returns : goal.returns
 returns g c =
     let (before, counts, is) = c.passed.invariant in
     let all = g.F.Fields.pairs c.args.fields in
-    let P : List Pair → Type 0 = λ l. (more : ℕ) → AreHosts l more → AreHosts all (before + more) in
-    (before, subst (λ n. AreHosts all n) (omega arith) (subst P c.in_default.ensures counts 0 refl), is)
+    let P : List Pair → Type 0 = λ l. (more : ℕ) → AreHosts l more → AreHosts all (before + more) in (
+      before,
+      subst (λ n. AreHosts all n) (omega arith) (subst P c.in_default.ensures counts 0 refl),
+      elim is [ inl (e, few) ↦ inl e | inr x ↦ inr x ],
+    )

@@ -8,7 +8,7 @@ abbrev pub invariant-passed : goal.invariant-passed
 invariant-passed g l =
     (before : ℕ) × ((more : ℕ) → AreHosts (g.F.Fields.pairs l.left) more
     → AreHosts (g.F.Fields.pairs l.fn.fields) (before + more))
-    × ((l.hosts ≡ before) ⊎ ((l.hosts ≡ 2) × (2 < before)))
+    × (((l.hosts ≡ before) × (before < 3)) ⊎ ((l.hosts ≡ 2) × (2 < before)))
 
 abbrev pub decreases-passed : goal.decreases-passed
 decreases-passed g l = length (g.F.Fields.pairs l.left)
