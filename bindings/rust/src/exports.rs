@@ -1620,7 +1620,8 @@ extern "C" {
     /// is `HTTP_BODY_NONE`, `HTTP_BODY_CHUNKED` or `HTTP_BODY_LENGTH`.
     ///
     /// This is the form for callers that do not read the head: it parses the head, and allocates. If
-    /// `exported_http_head` has parsed it, `exported_http_request_framing` does neither. A call holds up to 32 bytes of memory for each byte of the head, and does not read after it.
+    /// `exported_http_head` has parsed it, `exported_http_request_framing` does neither. A call holds
+    /// up to 32 bytes of memory for each byte of the head, and does not read after it.
     ///
     /// # Errors
     ///
