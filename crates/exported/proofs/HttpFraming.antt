@@ -1,7 +1,7 @@
 -- Lemmas about the positions of Host fields, and about the heads at positions.
-use Rattle.std.specs.Prelude.{◌≡◌, ◌<◌, ◌++◌, ◌∷◌, ◌⊎◌, [], ℕ, List, Result, Ok, Err, None, Some}
-use Rattle.std.specs.Prelude.{codes, map, take}
-use Rattle.std.proofs.Common.{◌∙◌, ap, arith, inl, inr, refl, subst, suc, sym}
+use Rattle.std.specs.Prelude.{◌≡◌, ◌<◌, ◌++◌, ◌∷◌, ◌⊎◌, [], ℕ, List, Result, Ok, Err}
+use Rattle.std.specs.Prelude.{length, map}
+use Rattle.std.proofs.Common.{◌∙◌, ap, append-nil, arith, inl, inr, subst, sym}
 use Rattle.format_http.specs.Bodies.Refusals.{IsFraming}
 use Rattle.format_http.specs.Heads.Head.{Pair, Request}
 use Rattle.format_http.specs.Heads.Hosts.{AreHosts, HasInvalidHost}
@@ -20,7 +20,7 @@ use Rattle.format_http_places.specs.declared.places.Span.{Span}
 use Rattle.exported.specs.Http.{places_of, response_of}
 use Rattle.exported.specs.HttpBody.{IsWritten, WritesRequest, fault_number}
 use Rattle.exported.specs.HttpFraming.{FramesLine, FramesStatus, HasNoHost, HasOneHost}
-use Rattle.exported.specs.HttpFraming.{IsFirstValue, IsHostAt, IsNextHost, IsPlaceOf}
+use Rattle.exported.specs.HttpFraming.{IsFirstValue, IsHostAt, IsPlaceOf}
 use Rattle.exported.specs.HttpFraming.{IsRejectedAt, IsSecondName, line_at, nowhere, status_at}
 use Rattle.exported.specs.declared.http.Head.{Head}
 use Rattle.exported.specs.declared.http.body.HttpBody.{HttpBody}
@@ -33,6 +33,12 @@ pub host_more : (bytes : List ℕ) (before : List Field) (field : Field) → Has
     → (IsHostAt bytes field → ⊥) → HasNoHost bytes (before ++ field ∷ [])
 host_more bytes [] field none not = (not, tt)
 host_more bytes (f ∷ before) field (no, none) not = (no, host_more bytes before field none not)
+
+pub none_after : (bytes : List ℕ) (before left : List Field) → length left ≡ 0
+    → HasNoHost bytes before → HasNoHost bytes (before ++ left)
+none_after bytes before [] empty none =
+    subst (λ l. HasNoHost bytes l) (sym (append-nil before)) none
+none_after bytes before (x ∷ left) empty none = absurd (omega (arith, empty))
 
 -- ---- how many Host fields there are
 
@@ -211,6 +217,6 @@ frames_response method bytes head places code out shows fields frames = record {
     told : of shows.line.status shows.line.major shows.line.minor shows.fields
     told = subst (λ l. of shows.line.status shows.line.major shows.line.minor l) fields
         (subst (λ n. of shows.line.status shows.line.major n (map (pair_at bytes) places))
-                shows.minor
+        shows.minor
         (subst (λ n. of shows.line.status n head.minor (map (pair_at bytes) places)) shows.major
         (subst (λ n. of n head.major head.minor (map (pair_at bytes) places)) shows.status frames)))

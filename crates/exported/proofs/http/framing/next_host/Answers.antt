@@ -1,8 +1,8 @@
-use Rattle.std.proofs.Common.{[], ap, append-nil, append_assoc, map, refl, subst, sym, ◌++◌, ◌∙◌}
-use Rattle.std.proofs.Common.{◌∷◌}
+use Rattle.std.proofs.Common.{[], ap, append_assoc, map, refl, subst, sym, ◌++◌, ◌∙◌, ◌∷◌}
 use Rattle.std.specs.Char.{to_ascii_lowercase}
 use Rattle.winnow.specs.Equal.{true_is_false}
-use Rattle.exported.proofs.HttpFraming.{host_more}
+use Rattle.exported.proofs.HttpFraming.{host_more, none_after}
+use Rattle.exported.specs.HttpFraming.{HasNoHost}
 use Rattle.exported.proofs.http.framing.next_host.Goals as goal
 
 pub passed-init : goal.passed-init
@@ -33,4 +33,7 @@ passed-preserved c =
     )
 
 pub returns : goal.returns
-returns c = ?
+returns c =
+    let (before, splits, none) = c.passed.invariant in
+    subst (λ l. HasNoHost c.args.bytes.now l) (sym splits)
+    (none_after c.args.bytes.now before c.passed.left.now c.in_default.ensures.cases none)

@@ -69,7 +69,8 @@ pub returns : goal.returns
 returns g c =
     let (before, counts, is) = c.passed.invariant in
     let all = g.F.Fields.pairs c.args.fields in
-    let P : List Pair → Type 0 = λ l. (more : ℕ) → AreHosts l more → AreHosts all (before + more) in (
+    let P : List Pair → Type 0 =
+    λ l. (more : ℕ) → AreHosts l more → AreHosts all (before + more) in (
       before,
       subst (λ n. AreHosts all n) (omega arith) (subst P c.in_default.ensures counts 0 refl),
       elim is [ inl (e, few) ↦ inl e | inr x ↦ inr x ],
