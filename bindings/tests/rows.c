@@ -1333,6 +1333,7 @@ int main(void)
     test_resp_nodes();
     test_bodies();
     test_body_lengths();
+    test_framings();
     test_fields();
     test_toml();
     test_positions();
