@@ -1298,6 +1298,7 @@ static void test_library(void)
 #include "trailers_rows.h"
 #include "resp_nodes_rows.h"
 #include "writing_rows.h"
+#include "json_write_rows.h"
 
 int main(void)
 {
@@ -1307,6 +1308,8 @@ int main(void)
     test_json();
     test_steps();
     test_nodes();
+    test_node_lookups();
+    test_written_strings();
     test_json_extents();
     test_strings();
     test_integers();
@@ -1330,6 +1333,7 @@ int main(void)
     test_resp_nodes();
     test_bodies();
     test_body_lengths();
+    test_framings();
     test_fields();
     test_toml();
     test_positions();

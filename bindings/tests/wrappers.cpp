@@ -124,8 +124,12 @@ static void http()
     EXPECT(pergidau::http_head("PUT", fields).code == PERGIDAU_INVALID);
     EXPECT(pergidau::http_head_partial("PUT", fields).code == PERGIDAU_INCOMPLETE);
     EXPECT(pergidau::http_request_body(request)->length == 3);
+    const auto framing = pergidau::http_request_framing(request, fields, *head);
+    EXPECT(framing && framing->body.length == 3 && framing->persists);
     EXPECT(pergidau::http_response_body("GET", response)->kind == PERGIDAU_HTTP_BODY_UNTIL_CLOSE);
-    EXPECT(pergidau::http_response_head(response, fields)->status == 200);
+    const auto status = pergidau::http_response_head(response, fields);
+    EXPECT(status->status == 200);
+    EXPECT(!pergidau::http_response_framing("GET", response, fields, *status)->persists);
     EXPECT(pergidau::http_response_head("HTTP", fields).code == PERGIDAU_INVALID);
     EXPECT(pergidau::http_response_head_partial("HTTP", fields).code == PERGIDAU_INCOMPLETE);
     pergidau_http_head_state state{}, other{};
@@ -151,9 +155,13 @@ static void json_and_toml()
     EXPECT(pergidau::json_diagnose("[1,]", 1)->error == PERGIDAU_JSON_ERROR_VALUE);
     EXPECT(*pergidau::json_integer("-5") == -5 && *pergidau::json_natural("5") == 5);
     EXPECT(*pergidau::json_member("{\"a/b\": 1}", 1, "a~1b", true) == 6);
+    EXPECT(pergidau::json_pointer("{\"a/b\": [1]}", 2, "/a~1b/0")->span.offset == 9);
     EXPECT(*pergidau::json_nodes("{\"a\": [1]}", 2, nodes) == 4 && nodes[1].next == 2);
+    EXPECT(*pergidau::json_node_member("{\"a\": [1]}", nodes, 0, "a", false) == 2);
+    EXPECT(*pergidau::json_node_element(nodes, 2, 0) == 3);
     EXPECT(pergidau::json_step("[1]")->kind == PERGIDAU_JSON_BEGIN_ARRAY);
     EXPECT(pergidau::json_string("\"\\u0061\"", buffer)->text == 1 && buffer[0] == 'a');
+    EXPECT(*pergidau::json_write_string("a\"\n", buffer) == 7);
     pergidau_json_value_state state{};
     EXPECT(*pergidau::json_extent(state, " [1] 2", 0, buffer) == 4);
     EXPECT(*pergidau::json_extent(state, " 2", 1, buffer) == 2);
