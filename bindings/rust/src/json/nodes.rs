@@ -28,6 +28,19 @@ impl<'b> Nodes<'b> {
     pub fn nodes(&self) -> &'b [Node] {
         self.0.nodes
     }
+
+    /// Returns the value or the name that a node is, by its index in [`nodes`](Nodes::nodes). Returns
+    /// `None` if there is no such node.
+    ///
+    /// ```
+    /// let nodes = pergidau::json::OwnedNodes::parse("{\"a\": [1, 2]}", 2)?;
+    /// let list = nodes.nodes().item(2).unwrap();
+    /// assert_eq!(list.text(), "[1, 2]");
+    /// # Ok::<(), pergidau::Error>(())
+    /// ```
+    pub fn item(&self, index: usize) -> Option<Item<'b>> {
+        (index < self.0.nodes.len()).then_some(Item(Entry { list: self.0, index }))
+    }
 }
 
 /// The values of a JSON text, as nodes in a buffer of its own.
