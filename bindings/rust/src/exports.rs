@@ -2358,9 +2358,9 @@ extern "C" {
         out: *mut u64,
     ) -> u32;
 
-    /// Finds the first member of a name in an object among the nodes that `exported_json_nodes` wrote for
-    /// the text. Names are compared with their escapes decoded, as `exported_json_member` does; also
-    /// `is_token` is as there.
+    /// Finds the first member of a name in an object among the nodes that `exported_json_nodes` wrote
+    /// for the text. Names are compared with their escapes decoded, as `exported_json_member` does;
+    /// also `is_token` is as there.
     ///
     /// The nodes of the members themselves are visited, whatever these contain, and only names of the
     /// text are read.
@@ -2371,14 +2371,15 @@ extern "C" {
     ///
     /// # Errors
     ///
-    /// `INVALID`: the node at `index` is not an object, or there is none. Or, for nodes of another text, a
-    /// node precedes the one before it, or a name is not a string in the text. 0 is written.
+    /// `INVALID`: the node at `index` is not an object, or there is none. Or, for nodes of another
+    /// text, a node precedes the one before it, or a name is not a string in the text. 0 is written.
     ///
     /// # Safety
     ///
-    /// `text` must be valid for reads of `text_length` bytes, `nodes` for reads of `nodes_length` entries
-    /// and `name` for reads of `name_length` bytes, which must not change during the call. `out` must be
-    /// valid for writes of one index, and must not overlap the others. The call needs 16 KiB of stack.
+    /// `text` must be valid for reads of `text_length` bytes, `nodes` for reads of `nodes_length`
+    /// entries and `name` for reads of `name_length` bytes, which must not change during the call.
+    /// `out` must be valid for writes of one index, and must not overlap the others. The call needs 16
+    /// KiB of stack.
     pub fn exported_json_node_member(
         text: *const u8,
         text_length: usize,
@@ -2401,14 +2402,14 @@ extern "C" {
     ///
     /// # Errors
     ///
-    /// `INVALID`: the node at `index` is not an array, or there is none. Or, for nodes of no text, a node
-    /// precedes the one before it. 0 is written.
+    /// `INVALID`: the node at `index` is not an array, or there is none. Or, for nodes of no text, a
+    /// node precedes the one before it. 0 is written.
     ///
     /// # Safety
     ///
-    /// `nodes` must be valid for reads of `nodes_length` entries, which must not change during the call.
-    /// `out` must be valid for writes of one index, and must not overlap them. The call needs 16 KiB of
-    /// stack.
+    /// `nodes` must be valid for reads of `nodes_length` entries, which must not change during the
+    /// call. `out` must be valid for writes of one index, and must not overlap them. The call needs 16
+    /// KiB of stack.
     pub fn exported_json_node_element(
         nodes: *const JsonNode,
         nodes_length: usize,
@@ -2500,25 +2501,26 @@ extern "C" {
 
     /// Finds the value that a JSON pointer (RFC 6901) identifies in a JSON text (RFC 8259) whose arrays
     /// and objects are nested at most `max_depth` deep: `/a~1b/0` is the first element of the member
-    /// `a/b`, and the empty pointer is the value of the text. If names are repeated, the first is found.
+    /// `a/b`, and the empty pointer is the value of the text. If names are repeated, the first is
+    /// found.
     ///
     /// `~1` is a slash and `~0` a tilde. Names are compared with their escapes decoded. An index is
     /// digits without a leading zero; `-`, the index after the last element, has no value.
     ///
     /// Each byte is scanned once, and once more for each token of the pointer whose value contains it.
-    /// Bytes after the value of the text are not scanned, and bytes of 128 and above are not checked: so
-    /// a result is that of the text if `exported_json_check` accepts it.
+    /// Bytes after the value of the text are not scanned, and bytes of 128 and above are not checked:
+    /// so a result is that of the text if `exported_json_check` accepts it.
     ///
     /// `DONE`: the kind of the value and its span are written.
     ///
     /// `END`: there is no such value. The kind and the span of the innermost value that the pointer
-    /// reaches are written: an object without the next name, an array without the next index, or a value
-    /// that is neither.
+    /// reaches are written: an object without the next name, an array without the next index, or a
+    /// value that is neither.
     ///
     /// # Errors
     ///
-    /// `INVALID_POINTER`: `pointer` is not a JSON pointer. It is empty or starts with a slash, and `0` or
-    /// `1` follows each tilde. Zeros are written.
+    /// `INVALID_POINTER`: `pointer` is not a JSON pointer. It is empty or starts with a slash, and `0`
+    /// or `1` follows each tilde. Zeros are written.
     ///
     /// `INVALID`: `text` is not such a JSON text, also if it is incomplete. Zeros are written.
     /// `exported_json_diagnose` reports where and why.
@@ -2527,9 +2529,9 @@ extern "C" {
     ///
     /// # Safety
     ///
-    /// `text` must be valid for reads of `text_length` bytes and `pointer` for reads of `pointer_length`
-    /// bytes, which must not change during the call. `out` must be valid for writes of one item, and must
-    /// not overlap the others. The call needs 512 KiB of stack.
+    /// `text` must be valid for reads of `text_length` bytes and `pointer` for reads of
+    /// `pointer_length` bytes, which must not change during the call. `out` must be valid for writes of
+    /// one item, and must not overlap the others. The call needs 512 KiB of stack.
     pub fn exported_json_pointer(
         text: *const u8,
         text_length: usize,
@@ -2604,23 +2606,23 @@ extern "C" {
         out: *mut JsonText,
     ) -> u32;
 
-    /// Writes bytes as a JSON string (RFC 8259), in quotes. A quote, a backslash and the bytes below 32 are
-    /// escaped as in RFC 8785, section 3.2.2.2: by `\"`, `\\`, `\b`, `\f`, `\n`, `\r`, `\t`, or `\u00`
-    /// and two digits with small letters. All other bytes are unchanged.
+    /// Writes bytes as a JSON string (RFC 8259), in quotes. A quote, a backslash and the bytes below 32
+    /// are escaped as in RFC 8785, section 3.2.2.2: by `\"`, `\\`, `\b`, `\f`, `\n`, `\r`, `\t`, or
+    /// `\u00` and two digits with small letters. All other bytes are unchanged.
     ///
-    /// The string is JSON if the bytes are UTF-8, which is not checked. It has at most six bytes for each
-    /// byte, and two more. `exported_json_string` reads the same bytes from it, whatever follows.
+    /// The string is JSON if the bytes are UTF-8, which is not checked. It has at most six bytes for
+    /// each byte, and two more. `exported_json_string` reads the same bytes from it, whatever follows.
     ///
-    /// `DONE`: the string is written at the start of `buffer`, and its length into `out`. The other bytes
-    /// of the buffer are unchanged.
+    /// `DONE`: the string is written at the start of `buffer`, and its length into `out`. The other
+    /// bytes of the buffer are unchanged.
     ///
-    /// The function does not allocate. It scans the bytes twice, so that it writes nothing if the buffer is
-    /// too small.
+    /// The function does not allocate. It scans the bytes twice, so that it writes nothing if the
+    /// buffer is too small.
     ///
     /// # Errors
     ///
-    /// `BUFFER_TOO_SMALL`: the string is longer than the buffer. Its length is written, and the buffer is
-    /// unchanged.
+    /// `BUFFER_TOO_SMALL`: the string is longer than the buffer. Its length is written, and the buffer
+    /// is unchanged.
     ///
     /// # Safety
     ///

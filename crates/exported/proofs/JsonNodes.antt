@@ -19,7 +19,8 @@ no_node = record { kind = 0; start = 0; end = 0; next = 0 }
 -- a node before the end is one of the list
 there : {kind : ℕ} {nodes : List JsonNode} {index end : ℕ} (at : ℕ)
     → HasInside kind nodes index end → at < end → IsAt nodes at (get_or nodes at no_node)
-there {nodes = nodes} at has less = slice_get-get_or nodes at no_node (omega (arith, has.within, less))
+there {nodes = nodes} at has less =
+    slice_get-get_or nodes at no_node (omega (arith, has.within, less))
 
 -- ---- names
 
@@ -47,7 +48,8 @@ module _ {nodes : List JsonNode} {index end at count : ℕ}
         (there at passes.is_array less) on tt;
   }
 
-  pub lacks_element : {position : ℕ} → end ≤ at → count ≤ position → LacksElement nodes index position
+  pub lacks_element : {position : ℕ} → end ≤ at → count ≤ position
+      → LacksElement nodes index position
   lacks_element past few = (end, at, count, passes, past, few)
 
   pub finds_element : {position : ℕ} → at < end → count ≤ position → position ≤ count
@@ -56,8 +58,8 @@ module _ {nodes : List JsonNode} {index end at count : ℕ}
       let same : count ≡ position = omega (arith, few, many) in
       (end, subst (λ n. PassesElements nodes index end at n) same passes, less)
 
-  pub breaks_element : {position : ℕ} → at < end → count < position → (get_or nodes at no_node).next ≤ at
-      → BreaksElement nodes index position
+  pub breaks_element : {position : ℕ} → at < end → count < position
+      → (get_or nodes at no_node).next ≤ at → BreaksElement nodes index position
   breaks_element less few back =
       inr (
         end,

@@ -1,5 +1,6 @@
 -- Lemmas about written strings of JSON.
-use Rattle.std.proofs.Common.{◌≡◌, ◌≤◌, ◌<◌, ◌∙◌, ◌+◌, ◌/◌, ◌%◌, ◌⊎◌, ◌==◌, ◌++◌, ◌∷◌, []}
+use Rattle.std.proofs.Common.{◌≡◌, ◌≤◌, ◌<◌, ◌∙◌, ◌+◌, ◌/◌, ◌%◌, ◌⊎◌, ◌==◌}
+use Rattle.std.proofs.Common.{◌++◌, ◌∷◌, []}
 use Rattle.std.proofs.Common.{if◌then◌else◌, ℕ, Bool, List, ap, append_assoc, arith, false}
 use Rattle.std.proofs.Common.{get_or, inl, inr, length, nat_lt, refl, subst, sym, take, true}
 use Rattle.std.proofs.lemmas.Bool.{eqb-false, eqb-true, ltb-false, ltb-true}

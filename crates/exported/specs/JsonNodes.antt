@@ -11,8 +11,8 @@ use Rattle.format_json_extents.specs.declared.node.JsonNode.{JsonNode}
 abbrev pub IsAt : List JsonNode → ℕ → JsonNode → Type 0
 IsAt nodes index it = slice_get nodes index ≡ Some it
 
--- `HasInside kind nodes index end`: the node at `index` has this kind, and the nodes in it end before
--- the index `end`.
+-- `HasInside kind nodes index end`: the node at `index` has this kind, and the nodes in it end
+-- before the index `end`.
 pub record HasInside (kind : ℕ) (nodes : List JsonNode) (index end : ℕ) : Type 0 where
   pub node : JsonNode
   pub is_at : IsAt nodes index node
@@ -20,8 +20,8 @@ pub record HasInside (kind : ℕ) (nodes : List JsonNode) (index end : ℕ) : Ty
   pub is_end : end ≡ node.next
   pub within : end ≤ length nodes
 
--- `Leads Pass nodes end from at count`: from the index `from`, the indices after `count` nodes, each
--- the index after everything in the previous one, lead to `at`. `Pass` holds for these nodes.
+-- `Leads Pass nodes end from at count`: from the index `from`, the indices after everything in
+-- `count` consecutive nodes lead to `at`. `Pass` holds for these nodes.
 pub data Leads (Pass : JsonNode → Type 0) (nodes : List JsonNode) (end from : ℕ) : ℕ → ℕ → Type 0
   where
     leads_nowhere : Leads Pass nodes end from from 0

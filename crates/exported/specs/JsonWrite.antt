@@ -1,7 +1,8 @@
 -- Strings of JSON that are written: those of RFC 8785 (section 3.2.2.2).
-use Rattle.std.specs.Prelude.{◌==◌, ◌+◌, ◌/◌, ◌%◌, if◌then◌else◌, ℕ, List, [], ◌∷◌, ◌++◌, nat_lt}
+use Rattle.std.specs.Prelude.{◌==◌, ◌+◌, ◌/◌, ◌%◌, if◌then◌else◌, ℕ, List, [], ◌∷◌}
+use Rattle.std.specs.Prelude.{◌++◌, nat_lt}
 
--- What denotes a byte after a backslash, if it must be escaped; 0 if there is none.
+-- the byte that denotes another one after a backslash, if it must be escaped; 0 if there is none
 abbrev pub letter_of : ℕ → ℕ
 letter_of b =
     if b == 34 then 34 else if b == 92 then 92 else if b == 8 then 98 else if b == 12 then 102 else
@@ -21,7 +22,7 @@ byte_text b =
     if letter_of b == 0 then (if nat_lt b 32 then four_digits b else b ∷ []) else
     92 ∷ letter_of b ∷ []
 
--- the texts of bytes one after the other
+-- the consecutive texts of bytes
 abbrev pub content_of : List ℕ → List ℕ
 content_of [] = []
 content_of (b ∷ more) = byte_text b ++ content_of more

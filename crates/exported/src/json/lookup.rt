@@ -108,9 +108,9 @@ fn find_element(nodes: &[JsonNode], index: usize, position: usize) -> Option<Opt
     }
 }
 
-/// Finds the first member of a name in an object among the nodes that `exported_json_nodes` wrote for
-/// the text. Names are compared with their escapes decoded, as `exported_json_member` does; also
-/// `is_token` is as there.
+/// Finds the first member of a name in an object among the nodes that `exported_json_nodes` wrote
+/// for the text. Names are compared with their escapes decoded, as `exported_json_member` does;
+/// also `is_token` is as there.
 ///
 /// The nodes of the members themselves are visited, whatever these contain, and only names of the
 /// text are read.
@@ -121,14 +121,15 @@ fn find_element(nodes: &[JsonNode], index: usize, position: usize) -> Option<Opt
 ///
 /// # Errors
 ///
-/// `INVALID`: the node at `index` is not an object, or there is none. Or, for nodes of another text, a
-/// node precedes the one before it, or a name is not a string in the text. 0 is written.
+/// `INVALID`: the node at `index` is not an object, or there is none. Or, for nodes of another
+/// text, a node precedes the one before it, or a name is not a string in the text. 0 is written.
 ///
 /// # Safety
 ///
-/// `text` must be valid for reads of `text_length` bytes, `nodes` for reads of `nodes_length` entries
-/// and `name` for reads of `name_length` bytes, which must not change during the call. `out` must be
-/// valid for writes of one index, and must not overlap the others. The call needs 16 KiB of stack.
+/// `text` must be valid for reads of `text_length` bytes, `nodes` for reads of `nodes_length`
+/// entries and `name` for reads of `name_length` bytes, which must not change during the call.
+/// `out` must be valid for writes of one index, and must not overlap the others. The call needs 16
+/// KiB of stack.
 #[unsafe(no_mangle)]
 pub extern "C" fn exported_json_node_member(
     text: &[u8],
@@ -168,14 +169,14 @@ pub extern "C" fn exported_json_node_member(
 ///
 /// # Errors
 ///
-/// `INVALID`: the node at `index` is not an array, or there is none. Or, for nodes of no text, a node
-/// precedes the one before it. 0 is written.
+/// `INVALID`: the node at `index` is not an array, or there is none. Or, for nodes of no text, a
+/// node precedes the one before it. 0 is written.
 ///
 /// # Safety
 ///
-/// `nodes` must be valid for reads of `nodes_length` entries, which must not change during the call.
-/// `out` must be valid for writes of one index, and must not overlap them. The call needs 16 KiB of
-/// stack.
+/// `nodes` must be valid for reads of `nodes_length` entries, which must not change during the
+/// call. `out` must be valid for writes of one index, and must not overlap them. The call needs 16
+/// KiB of stack.
 #[unsafe(no_mangle)]
 pub extern "C" fn exported_json_node_element(
     nodes: &[JsonNode],

@@ -28,25 +28,26 @@ fn code_of_lookup(lookup: Lookup) -> u32
 
 /// Finds the value that a JSON pointer (RFC 6901) identifies in a JSON text (RFC 8259) whose arrays
 /// and objects are nested at most `max_depth` deep: `/a~1b/0` is the first element of the member
-/// `a/b`, and the empty pointer is the value of the text. If names are repeated, the first is found.
+/// `a/b`, and the empty pointer is the value of the text. If names are repeated, the first is
+/// found.
 ///
 /// `~1` is a slash and `~0` a tilde. Names are compared with their escapes decoded. An index is
 /// digits without a leading zero; `-`, the index after the last element, has no value.
 ///
 /// Each byte is scanned once, and once more for each token of the pointer whose value contains it.
-/// Bytes after the value of the text are not scanned, and bytes of 128 and above are not checked: so
-/// a result is that of the text if `exported_json_check` accepts it.
+/// Bytes after the value of the text are not scanned, and bytes of 128 and above are not checked:
+/// so a result is that of the text if `exported_json_check` accepts it.
 ///
 /// `DONE`: the kind of the value and its span are written.
 ///
 /// `END`: there is no such value. The kind and the span of the innermost value that the pointer
-/// reaches are written: an object without the next name, an array without the next index, or a value
-/// that is neither.
+/// reaches are written: an object without the next name, an array without the next index, or a
+/// value that is neither.
 ///
 /// # Errors
 ///
-/// `INVALID_POINTER`: `pointer` is not a JSON pointer. It is empty or starts with a slash, and `0` or
-/// `1` follows each tilde. Zeros are written.
+/// `INVALID_POINTER`: `pointer` is not a JSON pointer. It is empty or starts with a slash, and `0`
+/// or `1` follows each tilde. Zeros are written.
 ///
 /// `INVALID`: `text` is not such a JSON text, also if it is incomplete. Zeros are written.
 /// `exported_json_diagnose` reports where and why.
@@ -55,9 +56,9 @@ fn code_of_lookup(lookup: Lookup) -> u32
 ///
 /// # Safety
 ///
-/// `text` must be valid for reads of `text_length` bytes and `pointer` for reads of `pointer_length`
-/// bytes, which must not change during the call. `out` must be valid for writes of one item, and must
-/// not overlap the others. The call needs 512 KiB of stack.
+/// `text` must be valid for reads of `text_length` bytes and `pointer` for reads of
+/// `pointer_length` bytes, which must not change during the call. `out` must be valid for writes of
+/// one item, and must not overlap the others. The call needs 512 KiB of stack.
 #[unsafe(no_mangle)]
 pub extern "C" fn exported_json_pointer(
     text: &[u8],

@@ -73,29 +73,30 @@ fn put_string(bytes: &[u8], buffer: &mut [u8]) -> usize
     put_byte(b'"', end, buffer)
 }
 
-/// The content of a string that [`exported_json_write_string`] writes, between its quotes, denotes the
-/// bytes: so [`exported_json_string`](crate::json::string::exported_json_string) reads them from it.
+/// The content of a string that [`exported_json_write_string`] writes, between its quotes, denotes
+/// the bytes: so [`exported_json_string`](crate::json::string::exported_json_string) reads them
+/// from it.
 pub fn strings_read_back()
     ensures { (bytes : List ℕ) → Means (content_of bytes) bytes }
 {}
 
-/// Writes bytes as a JSON string (RFC 8259), in quotes. A quote, a backslash and the bytes below 32 are
-/// escaped as in RFC 8785, section 3.2.2.2: by `\"`, `\\`, `\b`, `\f`, `\n`, `\r`, `\t`, or `\u00`
-/// and two digits with small letters. All other bytes are unchanged.
+/// Writes bytes as a JSON string (RFC 8259), in quotes. A quote, a backslash and the bytes below 32
+/// are escaped as in RFC 8785, section 3.2.2.2: by `\"`, `\\`, `\b`, `\f`, `\n`, `\r`, `\t`, or
+/// `\u00` and two digits with small letters. All other bytes are unchanged.
 ///
-/// The string is JSON if the bytes are UTF-8, which is not checked. It has at most six bytes for each
-/// byte, and two more. `exported_json_string` reads the same bytes from it, whatever follows.
+/// The string is JSON if the bytes are UTF-8, which is not checked. It has at most six bytes for
+/// each byte, and two more. `exported_json_string` reads the same bytes from it, whatever follows.
 ///
-/// `DONE`: the string is written at the start of `buffer`, and its length into `out`. The other bytes
-/// of the buffer are unchanged.
+/// `DONE`: the string is written at the start of `buffer`, and its length into `out`. The other
+/// bytes of the buffer are unchanged.
 ///
-/// The function does not allocate. It scans the bytes twice, so that it writes nothing if the buffer is
-/// too small.
+/// The function does not allocate. It scans the bytes twice, so that it writes nothing if the
+/// buffer is too small.
 ///
 /// # Errors
 ///
-/// `BUFFER_TOO_SMALL`: the string is longer than the buffer. Its length is written, and the buffer is
-/// unchanged.
+/// `BUFFER_TOO_SMALL`: the string is longer than the buffer. Its length is written, and the buffer
+/// is unchanged.
 ///
 /// # Safety
 ///
