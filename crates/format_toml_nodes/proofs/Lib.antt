@@ -1,6 +1,7 @@
 mod Changes
 mod Elements
 mod Entries
+mod Finding
 mod Joins
 mod Placed
 mod Reached

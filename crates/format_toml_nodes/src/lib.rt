@@ -10,6 +10,7 @@
 //! with a loop.
 #![tactic(auto)]
 
+pub mod find;
 mod join;
 mod links;
 pub mod node;
