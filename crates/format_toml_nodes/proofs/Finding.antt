@@ -1,10 +1,10 @@
 -- Lemmas about the search for the entry of a name.
-use Rattle.std.specs.Prelude.{◌≡◌, ◌⊎◌, ℕ, ◌+◌, ◌-◌, ◌<◌, ◌≤◌, Bool, true, false, not}
-use Rattle.std.specs.Prelude.{List, [], ◌∷◌, ◌++◌, length, take, drop, slice_get, Option, Some, None}
+use Rattle.std.specs.Prelude.{◌≡◌, ℕ, ◌+◌, ◌-◌, ◌<◌, ◌≤◌, Bool, true, false, not}
+use Rattle.std.specs.Prelude.{List, [], ◌∷◌, ◌++◌, length, take, drop, slice_get, Some, None}
 use Rattle.std.proofs.Common.{refl, sym, ap, subst, inl, inr, ◌∙◌, arith}
 use Rattle.std.proofs.lemmas.Bool.{cases_lt}
 use Rattle.std.specs.List.{slice_range}
-use Rattle.std.proofs.lemmas.List.{length-append, length-drop, take_rest}
+use Rattle.std.proofs.lemmas.List.{length-append, take_rest}
 use Rattle.std.proofs.lemmas.Option.{same_Some, slice_get_within}
 use Rattle.std.proofs.Math.Seq.{drop-append_seam, take-append_seam}
 use Rattle.format_toml_nodes.specs.Find.{AreAt, HasAt, IsFound}
@@ -12,7 +12,7 @@ use Rattle.format_toml_nodes.specs.Nodes.{HasParent, IsFirstIn, StandsAt, above,
 use Rattle.format_toml_nodes.specs.declared.node.Span.{Span}
 use Rattle.format_toml_nodes.specs.declared.node.TomlNode.{TomlNode}
 use Rattle.format_toml_tree.specs.Added.{some_there}
-use Rattle.format_toml_tree.specs.Paths.{Path, Step, named, placed, others_same}
+use Rattle.format_toml_tree.specs.Paths.{Path, Step, named, placed}
 
 -- what stands at a span
 pub has_at : (text : List ℕ) (place : Span) (bytes : List ℕ) → StandsAt text place bytes
@@ -20,10 +20,10 @@ pub has_at : (text : List ℕ) (place : Span) (bytes : List ℕ) → StandsAt te
 has_at text place bytes at =
     let whole : length text ≡ length at.before + (length bytes + length at.behind) =
     ap (λ l. length l) at.splits ∙ length-append at.before (bytes ++ at.behind)
-        ∙ ap (λ n. length at.before + n) (length-append bytes at.behind) in
+    ∙ ap (λ n. length at.before + n) (length-append bytes at.behind) in
     let dropped : drop place.offset text ≡ bytes ++ at.behind =
     ap (λ n. drop n text) at.begins ∙ ap (λ l. drop (length at.before) l) at.splits
-        ∙ drop-append_seam at.before (bytes ++ at.behind) in (
+    ∙ drop-append_seam at.before (bytes ++ at.behind) in (
       omega (arith, whole, at.begins),
       omega (arith, whole, at.begins, at.ends),
       ap (λ l. take place.length l) dropped ∙ ap (λ n. take n (bytes ++ at.behind)) at.ends
@@ -90,13 +90,13 @@ module _ {text : List ℕ} {nodes : List TomlNode} {path : ℕ → Path} (are : 
       record {
         passed = λ j low w e. elim (cases_lt last j) [
           | inl after ↦ elim (cases_lt j at) [
-              | inl before ↦
-                  none_between last at j up so.next after before (has_parent j w e)
-              | inr reached ↦
-                  let here : j ≡ at = omega (arith, low, reached) in
-                  let is = entry at it g (ap path (sym here) ∙ e) in
-                  other is.1 is.2
-            ]
+            | inl before ↦
+                none_between last at j up so.next after before (has_parent j w e)
+            | inr reached ↦
+                let here : j ≡ at = omega (arith, low, reached) in
+                let is = entry at it g (ap path (sym here) ∙ e) in
+                other is.1 is.2
+          ]
           | inr before ↦ so.passed j before w e
         ];
         next = subst (λ i. IsFirstIn nodes i (at + 1) it.next) same
@@ -133,11 +133,11 @@ module _ {text : List ℕ} {nodes : List TomlNode} {path : ℕ → Path} (are : 
   so_none last at over so j w e = elim (cases_lt last j) [
     | inr before ↦ so.passed j before w e
     | inl after ↦ elim so.next [
-        | inl (z, none) ↦ none j (omega (arith, after)) (has_parent j w e)
-        | inr (low, parent, none) ↦
-            let (it, g, is) = parent in
-            over (omega (arith, low)) (slice_get_within nodes at it g)
-      ]
+      | inl (z, none) ↦ none j (omega (arith, after)) (has_parent j w e)
+      | inr (low, parent, none) ↦
+          let (it, g, is) = parent in
+          over (omega (arith, low)) (slice_get_within nodes at it g)
+    ]
   ]
 
 -- ---- tests
@@ -157,8 +157,7 @@ both_ways b e f = absurd (cc)
 
 pub is_span : (text rest found : List ℕ) (o n : ℕ) → rest ≡ slice_range text o (length text)
     → found ≡ slice_range rest 0 n → found ≡ take n (drop o text)
-is_span text rest found o n e f = f ∙ ap (λ l. take n l) (e ∙ take_rest text o)
-
-pub rest_length : (text rest : List ℕ) (o : ℕ) → rest ≡ slice_range text o (length text)
-    → length rest ≡ length text - o
-rest_length text rest o e = ap (λ l. length l) (e ∙ take_rest text o) ∙ length-drop o text
+is_span text rest found o n e f =
+    let none : n - 0 ≡ n = omega arith in
+    let front : slice_range rest 0 n ≡ take n rest = ap (λ k. take k rest) none in
+    f ∙ front ∙ ap (λ l. take n l) (e ∙ take_rest text o)

@@ -3,6 +3,7 @@ mod Elements
 mod Entries
 mod Finding
 mod Joins
+mod Nanoseconds
 mod Placed
 mod Reached
 mod Texts

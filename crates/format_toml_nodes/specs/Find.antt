@@ -1,5 +1,5 @@
 -- The node of a name in a table.
-use Rattle.std.specs.Prelude.{◌≡◌, ℕ, ◌+◌, ◌-◌, ◌<◌, ◌≤◌, List, ◌∷◌, [], length, take, drop}
+use Rattle.std.specs.Prelude.{◌≡◌, ℕ, ◌-◌, ◌<◌, ◌≤◌, List, ◌∷◌, [], length, take, drop}
 use Rattle.std.specs.Prelude.{slice_get, Option, Some, None}
 use Rattle.format_toml_nodes.specs.Nodes.{AreNodesOf, IsIn, IsJoined}
 use Rattle.format_toml_nodes.specs.declared.node.Span.{Span}

@@ -10,6 +10,7 @@
 //! with a loop.
 #![tactic(auto)]
 
+pub mod date_times;
 pub mod find;
 mod join;
 mod links;

@@ -1,4 +1,4 @@
-use Rattle.std.proofs.Common.{◌-◌, ◌<◌, ◌≤◌, ℕ, length}
+use Rattle.std.proofs.Common.{◌-◌, ◌<◌, ℕ, length}
 use Rattle.format_toml_nodes.specs.Find.{AreAt}
 use Rattle.format_toml_nodes.proofs.Finding.{SoFar}
 use Rattle.format_toml_tree.specs.Paths.{Path}
