@@ -424,6 +424,7 @@ static void read_chunked(const uint8_t *bytes, size_t length)
 #include "json_lookup_fuzz.h"
 #include "json_nodes_fuzz.h"
 #include "resp_nodes_fuzz.h"
+#include "toml_values_fuzz.h"
 #include "toml_fuzz.h"
 #include "writing_fuzz.h"
 
@@ -459,6 +460,9 @@ static void read_all(const uint8_t *bytes, size_t length)
     read_chunked(bytes, length);
     read_body(bytes, length);
     read_toml(bytes, length);
+    read_date_times(bytes, length);
+    read_doubles(bytes, length);
+    find_anywhere(bytes, length);
     read_place(bytes, length);
     write_slices(bytes, length);
     read_dns(bytes, length);

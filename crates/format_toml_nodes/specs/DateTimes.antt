@@ -3,7 +3,7 @@ use Rattle.std.specs.Prelude.{◌≡◌, ℕ, List, ◌++◌, replicate, take, O
 use Rattle.std.specs.List.{All}
 use Rattle.std.specs.Str.Parse.{digits_value}
 use Rattle.format_toml_nodes.specs.Nodes.{date_time_of, fraction_of}
-use Rattle.format_toml_nodes.specs.declared.date_times.TomlDateTime.{TomlDateTime}
+use Rattle.format_toml_nodes.specs.declared.date_times.TomlDateTimeParts.{TomlDateTimeParts}
 use Rattle.format_toml_tree.specs.Dates.{IsDateTime, IsDigit}
 use Rattle.format_toml_tree.specs.declared.value.DateTime.{DateTime}
 
@@ -22,7 +22,7 @@ IsNanosecond digits (Some n) = All IsDigit digits × (n ≡ nanoseconds digits)
 
 module _ {A : Type 0} where
   -- the numbers of a date, a time or both, as in the value of a node, with nanoseconds
-  abbrev pub numbers : DateTime A → TomlDateTime
+  abbrev pub numbers : DateTime A → TomlDateTimeParts
   numbers d = let v = date_time_of d in record {
     kind = v.kind;
     nanosecond = nanoseconds (fraction_of d);
@@ -36,6 +36,6 @@ module _ {A : Type 0} where
   }
 
 -- The numbers of the date, the time or both that all of the bytes are, or that they are none.
-abbrev pub IsOfText : Type 0 → List ℕ → Option TomlDateTime → Type 0
+abbrev pub IsOfText : Type 0 → List ℕ → Option TomlDateTimeParts → Type 0
 IsOfText A text None = (d : DateTime A) → IsDateTime d text → ⊥
 IsOfText A text (Some it) = (d : DateTime A) × IsDateTime d text × (it ≡ numbers d)

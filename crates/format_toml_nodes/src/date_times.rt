@@ -19,7 +19,7 @@ use std::alloc::{AllocError, Allocator};
 /// ```
 #[repr(C)]
 #[derive(Clone, Copy, Debug, PartialEq, Eq, Drop)]
-pub struct TomlDateTime {
+pub struct TomlDateTimeParts {
     /// Which parts there are: one of the kinds `TOML_OFFSET_DATE_TIME` to `TOML_LOCAL_TIME`.
     pub kind: u32,
     /// The nanosecond of the second, from 0 to 999,999,999.
@@ -41,7 +41,7 @@ pub struct TomlDateTime {
 }
 
 /// Zeros, which callers have room with.
-pub const NO_DATE_TIME: TomlDateTime = TomlDateTime {
+pub const NO_DATE_TIME: TomlDateTimeParts = TomlDateTimeParts {
     kind: 0,
     nanosecond: 0,
     year: 0,
@@ -108,12 +108,12 @@ pub fn nanosecond(digits: &[u8]) -> Option<u32>
 }
 
 /// The numbers of a date, a time or both.
-fn numbers_of<A: Allocator>(found: &DateTime<A>) -> TomlDateTime
+fn numbers_of<A: Allocator>(found: &DateTime<A>) -> TomlDateTimeParts
     requires { All IsDigit (fraction_of found.now) }
     ensures { result ≡ numbers found.now }
 {
     let value = date_time_value(found);
-    TomlDateTime {
+    TomlDateTimeParts {
         kind: value.kind,
         nanosecond: nanosecond_of(fraction(found).as_bytes()),
         year: value.year,
@@ -144,7 +144,7 @@ fn numbers_of<A: Allocator>(found: &DateTime<A>) -> TomlDateTime
 pub fn read_date_time<A: Allocator>(
     alloc: A,
     text: &[u8],
-) -> Result<Option<TomlDateTime>, AllocError>
+) -> Result<Option<TomlDateTimeParts>, AllocError>
     ensures found { IfOk result (λ o. IsOfText A text.now o) }
     ensures full { OnErr result (HasPoint text.now) }
 {
