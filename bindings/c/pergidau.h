@@ -2902,6 +2902,8 @@ enum pergidau_code pergidau_toml_document(
  * PERGIDAU_DONE: the numbers are written. The kind tells which parts there are: those of a
  * part that is missing are 0.
  *
+ * A call holds up to 4 bytes of memory for each byte of a fraction.
+ *
  * # Errors
  *
  * PERGIDAU_INVALID: the bytes are not a date, a time or both. Zeros are written.

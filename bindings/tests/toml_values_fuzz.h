@@ -1,7 +1,7 @@
 /* Compares the values of TOML documents with independent functions, on random bytes. Included by
  * `fuzz.c`. */
 
-/* Reads a number of digits, and moves behind them; below 0 if there are fewer. */
+/* Reads a number of digits, and moves after them; below 0 if there are fewer. */
 static int digits_of(const uint8_t **at, const uint8_t *end, int count)
 {
     int number = 0;
@@ -14,8 +14,8 @@ static int digits_of(const uint8_t **at, const uint8_t *end, int count)
     return number;
 }
 
-/* Reads a number of two digits behind a mark, at most `most`. */
-static int behind_mark(const uint8_t **at, const uint8_t *end, char mark, int most)
+/* Reads a number of two digits after a mark, at most `most`. */
+static int after_mark(const uint8_t **at, const uint8_t *end, char mark, int most)
 {
     if (*at == end || **at != (uint8_t)mark) {
         return -1;
@@ -29,8 +29,8 @@ static int behind_mark(const uint8_t **at, const uint8_t *end, char mark, int mo
 static bool time_of(const uint8_t *at, const uint8_t *end, bool dated,
                     struct pergidau_toml_date_time_parts *it)
 {
-    int hour = digits_of(&at, end, 2), minute = behind_mark(&at, end, ':', 59);
-    int second = behind_mark(&at, end, ':', 60);
+    int hour = digits_of(&at, end, 2), minute = after_mark(&at, end, ':', 59);
+    int second = after_mark(&at, end, ':', 60);
     if (hour < 0 || hour > 23 || minute < 0 || second < 0) {
         return false;
     }
@@ -50,7 +50,7 @@ static bool time_of(const uint8_t *at, const uint8_t *end, bool dated,
         at++;
     } else if (at < end && dated && (*at == '+' || *at == '-')) {
         int sign = *at++ == '-' ? -1 : 1;
-        hour = digits_of(&at, end, 2), minute = behind_mark(&at, end, ':', 59);
+        hour = digits_of(&at, end, 2), minute = after_mark(&at, end, ':', 59);
         if (hour < 0 || hour > 23 || minute < 0) {
             return false;
         }
@@ -70,8 +70,8 @@ static bool date_time_of(const uint8_t *bytes, size_t length, struct pergidau_to
         it->kind = PERGIDAU_TOML_LOCAL_TIME;
         return time_of(at, end, false, it);
     }
-    int year = digits_of(&at, end, 4), month = behind_mark(&at, end, '-', 12);
-    int day = behind_mark(&at, end, '-', 31);
+    int year = digits_of(&at, end, 4), month = after_mark(&at, end, '-', 12);
+    int day = after_mark(&at, end, '-', 31);
     if (year < 0 || month < 1 || day < 1) {
         return false;
     }

@@ -2811,6 +2811,8 @@ extern "C" {
     /// `DONE`: the numbers are written. The kind tells which parts there are: those of a part that is
     /// missing are 0.
     ///
+    /// A call holds up to 4 bytes of memory for each byte of a fraction.
+    ///
     /// # Errors
     ///
     /// `INVALID`: the bytes are not a date, a time or both. Zeros are written.

@@ -1,21 +1,19 @@
 -- Lemmas about the node of a path of names.
 use Rattle.std.specs.Prelude.{◌≡◌, ℕ, ◌+◌, ◌<◌, ◌≤◌, List, [], ◌∷◌, ◌++◌, length, take}
-use Rattle.std.specs.Prelude.{Option, Some, None}
+use Rattle.std.specs.Prelude.{Some, None}
 use Rattle.std.specs.Borrow.{Bor}
-use Rattle.std.specs.declared.alloc.Global.{Global}
 use Rattle.std.proofs.Common.{refl, sym, ap, subst, inl, inr, ◌∙◌, arith, get_or}
-use Rattle.std.proofs.lemmas.List.{drop_more, get_or-map, length-map, take-append-drop, take_all, take_more}
 use Rattle.std.proofs.Common.{drop}
+use Rattle.std.proofs.lemmas.List.{drop_more, get_or-map, length-map, take-append-drop, take_all}
+use Rattle.std.proofs.lemmas.List.{take_more}
 use Rattle.exported.specs.Output.{slices_of}
 use Rattle.exported.specs.declared.output.Bytes.{Bytes}
 use Rattle.exported.specs.TomlFind.{FindsAlong, HasNoneAt, StandsAlong, along}
 use Rattle.format_toml_nodes.specs.Find.{AreAt, FindsEntry, IsFound, are_at}
-use Rattle.format_toml_nodes.specs.Nodes.{AreNodesOf, above}
+use Rattle.format_toml_nodes.specs.Nodes.{above}
 use Rattle.format_toml_nodes.specs.declared.node.TomlNode.{TomlNode}
 use Rattle.format_toml_tree.specs.Added.{some_there}
 use Rattle.format_toml_tree.specs.Paths.{Path, Step, named}
-use Rattle.format_toml_tree.specs.Rules.{nothing}
-use Rattle.format_toml_tree.specs.Runs.{Tree as Given}
 
 -- the path along names and more of them
 pub along_more : (p : Path) (names : List (Bor (List ℕ))) (more : List (Bor (List ℕ)))
@@ -31,19 +29,19 @@ split_at names i d w =
 
 module _ {text : List ℕ} {nodes : List TomlNode} {path : ℕ → Path} (are : AreAt text nodes path)
   where
-  -- below a path without a node there is none
-  none_below : (p : Path) (e : Step) → IsFound nodes path p None
-      → IsFound nodes path (e ∷ p) None
-  none_below p e none j w f =
-      let (it, g) = some_there nodes j w in
-      let is = are.is_in j it g in
-      none it.parent is.0 (is.1 ∙ ap (λ q. above q) f)
+    -- below a path without a node there is none
+    none_below : (p : Path) (e : Step) → IsFound nodes path p None
+        → IsFound nodes path (e ∷ p) None
+    none_below p e none j w f =
+        let (it, g) = some_there nodes j w in
+        let is = are.is_in j it g in
+        none it.parent is.0 (is.1 ∙ ap (λ q. above q) f)
 
-  pub none_along : (p : Path) (names : List (Bor (List ℕ))) → IsFound nodes path p None
-      → IsFound nodes path (along p names) None
-  none_along p [] none = none
-  none_along p (name ∷ names) none =
-      none_along (named name.now ∷ p) names (none_below p (named name.now) none)
+    pub none_along : (p : Path) (names : List (Bor (List ℕ))) → IsFound nodes path p None
+        → IsFound nodes path (along p names) None
+    none_along p [] none = none
+    none_along p (name ∷ names) none =
+        none_along (named name.now ∷ p) names (none_below p (named name.now) none)
 
 -- the node along the first names
 pub record SoFar (text : List ℕ) (nodes : List TomlNode) (table : ℕ)
@@ -61,7 +59,8 @@ module _ {text : List ℕ} {nodes : List TomlNode} {table : ℕ} {names : List (
     within = inside;
     stands = λ path are.
         let here : path at ≡ along (path table) (take i names) = so.stands path are in
-        let first : take (i + 1) names ≡ take i names ++ get_or names i d ∷ [] = take_more names i d w in
+        let first : take (i + 1) names ≡ take i names ++ get_or names i d ∷ [] =
+        take_more names i d w in
         (finds path are so.within).1
         ∙ ap (λ p. named (get_or names i d).now ∷ p) here
         ∙ sym (ap (λ l. along (path table) l) first
@@ -75,13 +74,14 @@ module _ {text : List ℕ} {nodes : List TomlNode} {table : ℕ} {names : List (
       let here : path at ≡ along (path table) (take i names) = so.stands path are in
       let name = get_or names i d in
       let whole : along (along (path table) (take i names)) (name ∷ drop (i + 1) names)
-          ≡ along (path table) names =
+      ≡ along (path table) names =
       sym (ap (λ l. along (path table) l) (split_at names i d w)
       ∙ along_more (path table) (take i names) (name ∷ drop (i + 1) names)) in
       let none : IsFound nodes path (named name.now ∷ along (path table) (take i names)) None =
       subst (λ p. IsFound nodes path (named name.now ∷ p) None) here (finds path are so.within) in
       subst (λ p. IsFound nodes path p None) whole
-      (none_along are (named name.now ∷ along (path table) (take i names)) (drop (i + 1) names) none)
+      (none_along are (named name.now ∷ along (path table) (take i names))
+      (drop (i + 1) names) none)
 
   pub so_found : length names ≤ i → FindsAlong text nodes table names (Some at)
   so_found past path are inside = (

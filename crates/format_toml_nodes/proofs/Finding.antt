@@ -14,7 +14,7 @@ use Rattle.format_toml_nodes.specs.declared.node.TomlNode.{TomlNode}
 use Rattle.format_toml_tree.specs.Added.{some_there}
 use Rattle.format_toml_tree.specs.Paths.{Path, Step, named, placed}
 
--- what stands at a span
+-- the bytes at a span
 pub has_at : (text : List ℕ) (place : Span) (bytes : List ℕ) → StandsAt text place bytes
     → HasAt text place bytes
 has_at text place bytes at =
@@ -103,7 +103,7 @@ module _ {text : List ℕ} {nodes : List TomlNode} {path : ℕ → Path} (are : 
             ((are.joined at it g).next (omega (arith, up)));
       }
 
-  -- A node in the table that is no element and has the name is the entry.
+  -- A node in the table that is not an element, and has the name, is the entry.
   by_path : (at : ℕ) (it : TomlNode) (p : Path) → path at ≡ p → (at ≡ 0 → ⊥)
       → at < length nodes → above p ≡ path table → is_placed p ≡ false
       → StandsAt text it.name (name_of p) → HasAt text it.name name → p ≡ Wanted

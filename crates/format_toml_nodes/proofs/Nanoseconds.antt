@@ -1,11 +1,12 @@
 -- Lemmas about the nanoseconds of digits.
-use Rattle.std.specs.Prelude.{◌≡◌, ℕ, suc, ◌+◌, ◌*◌, ◌-◌, ◌^◌, ◌<◌, ◌≤◌, List, [], ◌∷◌, ◌++◌, length}
-use Rattle.std.specs.Prelude.{replicate, take, string_bytes}
+use Rattle.std.specs.Prelude.{◌≡◌, ℕ, suc, ◌+◌, ◌*◌, ◌-◌, ◌^◌, ◌<◌, ◌≤◌}
+use Rattle.std.specs.Prelude.{List, [], ◌∷◌, ◌++◌, length, replicate, take, string_bytes}
 use Rattle.std.proofs.Common.{refl, sym, ap, subst, inl, inr, ◌∙◌, arith, get_or}
 use Rattle.std.proofs.lemmas.Bool.{cases_lt}
 use Rattle.std.proofs.lemmas.Int.Digits.{digits_value-lt, digits_value_more}
-use Rattle.std.proofs.lemmas.List.{get_or-append_right, get_or-replicate, get_or-take, get_or_append_left}
-use Rattle.std.proofs.lemmas.List.{get_or_default, get_or_past, length-append, length-replicate, length-take-le, take_all}
+use Rattle.std.proofs.lemmas.List.{get_or-append_right, get_or-replicate, get_or-take}
+use Rattle.std.proofs.lemmas.List.{get_or_append_left, get_or_default, get_or_past, length-append}
+use Rattle.std.proofs.lemmas.List.{length-replicate, length-take-le, take_all}
 use Rattle.std.proofs.lemmas.List.Elements.{All-append, All-replicate, All-take}
 use Rattle.std.proofs.lemmas.Str.{digit_value_digit}
 use Rattle.std.proofs.lemmas.Str.Parse.{digits_value-take-le}
@@ -14,8 +15,8 @@ use Rattle.std.specs.List.{All}
 use Rattle.std.specs.Str.Parse.{AllDigits, digits_value}
 use Rattle.format_toml_nodes.specs.DateTimes.{nine, nanoseconds}
 use Rattle.format_toml_nodes.specs.Nodes.{fraction_of}
-use Rattle.format_toml_tree.specs.Dates.{FoundResult, Fraction, IsAlone, IsBehind, IsDateTime, IsDigit, IsDigitOf}
-use Rattle.format_toml_tree.specs.Dates.{IsTimed, TimeText}
+use Rattle.format_toml_tree.specs.Dates.{FoundResult, Fraction, IsAlone, IsBehind, IsDateTime}
+use Rattle.format_toml_tree.specs.Dates.{IsDigit, IsDigitOf, IsTimed, TimeText}
 use Rattle.format_toml_tree.specs.declared.value.Date.{Date}
 use Rattle.format_toml_tree.specs.declared.value.DateTime.{DateTime}
 use Rattle.format_toml_tree.specs.declared.value.DateTime.TheVariants as dates
@@ -71,7 +72,8 @@ module _ (ds : List ℕ) where
   pub sum_small : All IsDigit ds → (i : ℕ) → digits_value 10 (take i (nine ds)) < 10 ^ 9
   sum_small all i =
       let each : All IsDigit (nine ds) = All-take IsDigit 9 (ds ++ replicate 9 48)
-      (All-append IsDigit ds (replicate 9 48) all (All-replicate IsDigit 9 48 (omega arith, omega arith))) in
+      (All-append IsDigit ds (replicate 9 48) all
+      (All-replicate IsDigit 9 48 (omega arith, omega arith))) in
       let most = digits_value-lt 10 (nine ds) (digits_of (nine ds) each) in
       let below = digits_value-take-le 10 (nine ds) i (omega arith) in
       let top : 10 ^ length (nine ds) ≡ 10 ^ 9 = ap (λ n. 10 ^ n) nine_long in

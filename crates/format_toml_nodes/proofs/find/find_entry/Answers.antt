@@ -3,7 +3,9 @@ use Rattle.std.proofs.lemmas.Option.{slice_get-get_or}
 use Rattle.format_toml_nodes.proofs.Finding.{both_ways, is_no_element, no_entry, so_first}
 use Rattle.format_toml_nodes.proofs.Finding.{so_found, so_next, so_none}
 use Rattle.format_toml_nodes.proofs.find.find_entry.Goals as goal
-use Rattle.format_toml_nodes.proofs.find.find_entry.Goals.{else-not-node-via-then-not-node+else-is_at}
+use Rattle.format_toml_nodes.proofs.find.find_entry.Goals.{
+  else-not-node-via-then-not-node+else-is_at,
+}
 use Rattle.format_toml_nodes.proofs.find.find_entry.Goals.{else-not-node-via-else-not-node}
 
 pub loop-last-init : goal.loop-last-init

@@ -1,5 +1,4 @@
-use Rattle.std.proofs.Common.{Some, None, subst}
-use Rattle.exported.proofs.TomlFind.{slice_missing, slice_next, so_found}
+use Rattle.exported.proofs.TomlFind.{slice_missing, slice_next}
 use Rattle.exported.proofs.toml.find.find.Goals as goal
 
 pub returns-in-None-clause-found : goal.returns-in-None-clause-found
