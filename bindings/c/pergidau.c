@@ -184,6 +184,22 @@ uint32_t exported_json_natural(
     const uint8_t *bytes,
     size_t bytes_length,
     uint64_t *out);
+uint32_t exported_json_node_member(
+    const uint8_t *text,
+    size_t text_length,
+    const struct pergidau_json_node *nodes,
+    size_t nodes_length,
+    size_t index,
+    const uint8_t *name,
+    size_t name_length,
+    uint32_t is_token,
+    size_t *out);
+uint32_t exported_json_node_element(
+    const struct pergidau_json_node *nodes,
+    size_t nodes_length,
+    size_t index,
+    size_t position,
+    size_t *out);
 uint32_t exported_json_member(
     const uint8_t *bytes,
     size_t bytes_length,
@@ -199,6 +215,13 @@ uint32_t exported_json_nodes(
     struct pergidau_json_node *nodes,
     size_t nodes_length,
     size_t *out);
+uint32_t exported_json_pointer(
+    const uint8_t *text,
+    size_t text_length,
+    size_t max_depth,
+    const uint8_t *pointer,
+    size_t pointer_length,
+    struct pergidau_json_item *out);
 uint32_t exported_json_step(
     const uint8_t *bytes,
     size_t bytes_length,
@@ -209,6 +232,12 @@ uint32_t exported_json_string(
     uint8_t *buffer,
     size_t buffer_length,
     struct pergidau_json_text *out);
+uint32_t exported_json_write_string(
+    const uint8_t *bytes,
+    size_t bytes_length,
+    uint8_t *buffer,
+    size_t buffer_length,
+    size_t *out);
 uint32_t exported_pair_line(
     const uint8_t *bytes,
     size_t bytes_length,
@@ -341,6 +370,8 @@ const char *pergidau_message(enum pergidau_code code)
         return "number out of range";
     case PERGIDAU_INVALID_DIALECT:
         return "impossible dialect: delimiter, quote, carriage return and line feed must be four different bytes, and the line ending one of the constants";
+    case PERGIDAU_INVALID_POINTER:
+        return "invalid JSON pointer (RFC 6901)";
     }
     return "unknown code";
 }
@@ -1533,6 +1564,76 @@ enum pergidau_code pergidau_json_natural(
     return (enum pergidau_code)exported_json_natural(bytes, bytes_length, out);
 }
 
+enum pergidau_code pergidau_json_node_member(
+    const uint8_t *text,
+    size_t text_length,
+    const struct pergidau_json_node *nodes,
+    size_t nodes_length,
+    size_t index,
+    const uint8_t *name,
+    size_t name_length,
+    uint32_t is_token,
+    size_t *out)
+{
+    const uint8_t no_text = {0};
+    const struct pergidau_json_node no_nodes = {0};
+    const uint8_t no_name = {0};
+    if (text_length > PTRDIFF_MAX / sizeof(uint8_t)) {
+        return PERGIDAU_TOO_LONG;
+    }
+    if (text == NULL && text_length > 0) {
+        return PERGIDAU_NULL;
+    }
+    if (nodes_length > PTRDIFF_MAX / sizeof(struct pergidau_json_node)) {
+        return PERGIDAU_TOO_LONG;
+    }
+    if (nodes == NULL && nodes_length > 0) {
+        return PERGIDAU_NULL;
+    }
+    if (name_length > PTRDIFF_MAX / sizeof(uint8_t)) {
+        return PERGIDAU_TOO_LONG;
+    }
+    if (name == NULL && name_length > 0) {
+        return PERGIDAU_NULL;
+    }
+    if (out == NULL) {
+        return PERGIDAU_NULL;
+    }
+    if (text == NULL) {
+        text = &no_text;
+    }
+    if (nodes == NULL) {
+        nodes = &no_nodes;
+    }
+    if (name == NULL) {
+        name = &no_name;
+    }
+    return (enum pergidau_code)exported_json_node_member(text, text_length, nodes, nodes_length, index, name, name_length, is_token, out);
+}
+
+enum pergidau_code pergidau_json_node_element(
+    const struct pergidau_json_node *nodes,
+    size_t nodes_length,
+    size_t index,
+    size_t position,
+    size_t *out)
+{
+    const struct pergidau_json_node no_nodes = {0};
+    if (nodes_length > PTRDIFF_MAX / sizeof(struct pergidau_json_node)) {
+        return PERGIDAU_TOO_LONG;
+    }
+    if (nodes == NULL && nodes_length > 0) {
+        return PERGIDAU_NULL;
+    }
+    if (out == NULL) {
+        return PERGIDAU_NULL;
+    }
+    if (nodes == NULL) {
+        nodes = &no_nodes;
+    }
+    return (enum pergidau_code)exported_json_node_element(nodes, nodes_length, index, position, out);
+}
+
 enum pergidau_code pergidau_json_member(
     const uint8_t *bytes,
     size_t bytes_length,
@@ -1602,6 +1703,40 @@ enum pergidau_code pergidau_json_nodes(
     return (enum pergidau_code)exported_json_nodes(text, text_length, max_depth, nodes, nodes_length, out);
 }
 
+enum pergidau_code pergidau_json_pointer(
+    const uint8_t *text,
+    size_t text_length,
+    size_t max_depth,
+    const uint8_t *pointer,
+    size_t pointer_length,
+    struct pergidau_json_item *out)
+{
+    const uint8_t no_text = {0};
+    const uint8_t no_pointer = {0};
+    if (text_length > PTRDIFF_MAX / sizeof(uint8_t)) {
+        return PERGIDAU_TOO_LONG;
+    }
+    if (text == NULL && text_length > 0) {
+        return PERGIDAU_NULL;
+    }
+    if (pointer_length > PTRDIFF_MAX / sizeof(uint8_t)) {
+        return PERGIDAU_TOO_LONG;
+    }
+    if (pointer == NULL && pointer_length > 0) {
+        return PERGIDAU_NULL;
+    }
+    if (out == NULL) {
+        return PERGIDAU_NULL;
+    }
+    if (text == NULL) {
+        text = &no_text;
+    }
+    if (pointer == NULL) {
+        pointer = &no_pointer;
+    }
+    return (enum pergidau_code)exported_json_pointer(text, text_length, max_depth, pointer, pointer_length, out);
+}
+
 enum pergidau_code pergidau_json_step(
     const uint8_t *bytes,
     size_t bytes_length,
@@ -1654,6 +1789,39 @@ enum pergidau_code pergidau_json_string(
         buffer = &no_buffer;
     }
     return (enum pergidau_code)exported_json_string(bytes, bytes_length, buffer, buffer_length, out);
+}
+
+enum pergidau_code pergidau_json_write_string(
+    const uint8_t *bytes,
+    size_t bytes_length,
+    uint8_t *buffer,
+    size_t buffer_length,
+    size_t *out)
+{
+    const uint8_t no_bytes = {0};
+    uint8_t no_buffer = {0};
+    if (bytes_length > PTRDIFF_MAX / sizeof(uint8_t)) {
+        return PERGIDAU_TOO_LONG;
+    }
+    if (bytes == NULL && bytes_length > 0) {
+        return PERGIDAU_NULL;
+    }
+    if (buffer_length > PTRDIFF_MAX / sizeof(uint8_t)) {
+        return PERGIDAU_TOO_LONG;
+    }
+    if (buffer == NULL && buffer_length > 0) {
+        return PERGIDAU_NULL;
+    }
+    if (out == NULL) {
+        return PERGIDAU_NULL;
+    }
+    if (bytes == NULL) {
+        bytes = &no_bytes;
+    }
+    if (buffer == NULL) {
+        buffer = &no_buffer;
+    }
+    return (enum pergidau_code)exported_json_write_string(bytes, bytes_length, buffer, buffer_length, out);
 }
 
 enum pergidau_code pergidau_pair_line(

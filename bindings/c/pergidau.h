@@ -107,7 +107,9 @@ enum pergidau_code {
      * Impossible dialect: delimiter, quote, carriage return and line feed must be four
      * different bytes, and the line ending one of the constants.
      */
-    PERGIDAU_INVALID_DIALECT = 13
+    PERGIDAU_INVALID_DIALECT = 13,
+    /* Invalid JSON pointer (RFC 6901). */
+    PERGIDAU_INVALID_POINTER = 14
 };
 
 /* The library writes enums as 32 bits: -fshort-enums is not supported. */
@@ -2355,6 +2357,69 @@ enum pergidau_code pergidau_json_natural(
     uint64_t *out);
 
 /*
+ * Finds the first member of a name in an object among the nodes that pergidau_json_nodes wrote
+ * for the text. Names are compared with their escapes decoded, as pergidau_json_member does;
+ * also is_token is as there.
+ *
+ * The nodes of the members themselves are visited, whatever these contain, and only names of
+ * the text are read.
+ *
+ * PERGIDAU_DONE: the index of the node of the member's value is written.
+ *
+ * PERGIDAU_END: no member has the name. 0 is written.
+ *
+ * # Errors
+ *
+ * PERGIDAU_INVALID: the node at index is not an object, or there is none. Or, for nodes of
+ * another text, a node precedes the one before it, or a name is not a string in the text. 0 is
+ * written.
+ *
+ * # Safety
+ *
+ * text must be valid for reads of text_length bytes, nodes for reads of nodes_length entries
+ * and name for reads of name_length bytes, which must not change during the call. out must be
+ * valid for writes of one index, and must not overlap the others. The call needs 16 KiB of
+ * stack.
+ */
+enum pergidau_code pergidau_json_node_member(
+    const uint8_t *text,
+    size_t text_length,
+    const struct pergidau_json_node *nodes,
+    size_t nodes_length,
+    size_t index,
+    const uint8_t *name,
+    size_t name_length,
+    uint32_t is_token,
+    size_t *out);
+
+/*
+ * Finds an element of an array, by its position from 0 on, among the nodes that
+ * pergidau_json_nodes wrote. The nodes of the elements before it are visited, whatever these
+ * contain.
+ *
+ * PERGIDAU_DONE: the index of the node of the element is written.
+ *
+ * PERGIDAU_END: the array has no more elements than position. 0 is written.
+ *
+ * # Errors
+ *
+ * PERGIDAU_INVALID: the node at index is not an array, or there is none. Or, for nodes of no
+ * text, a node precedes the one before it. 0 is written.
+ *
+ * # Safety
+ *
+ * nodes must be valid for reads of nodes_length entries, which must not change during the
+ * call. out must be valid for writes of one index, and must not overlap them. The call needs
+ * 16 KiB of stack.
+ */
+enum pergidau_code pergidau_json_node_element(
+    const struct pergidau_json_node *nodes,
+    size_t nodes_length,
+    size_t index,
+    size_t position,
+    size_t *out);
+
+/*
  * Finds the first member of a name in the object (RFC 8259) that bytes starts with, after
  * whitespace, at most one comma or colon, and whitespace. Names are compared with their
  * escapes decoded: {"\u0061": 1} has a member a.
@@ -2441,6 +2506,49 @@ enum pergidau_code pergidau_json_nodes(
     size_t *out);
 
 /*
+ * Finds the value that a JSON pointer (RFC 6901) identifies in a JSON text (RFC 8259) whose
+ * arrays and objects are nested at most max_depth deep: /a~1b/0 is the first element of the
+ * member a/b, and the empty pointer is the value of the text. If names are repeated, the first
+ * is found.
+ *
+ * ~1 is a slash and ~0 a tilde. Names are compared with their escapes decoded. An index is
+ * digits without a leading zero; -, the index after the last element, has no value.
+ *
+ * Each byte is scanned once, and once more for each token of the pointer whose value contains
+ * it. Bytes after the value of the text are not scanned, and bytes of 128 and above are not
+ * checked: so a result is that of the text if pergidau_json_check accepts it.
+ *
+ * PERGIDAU_DONE: the kind of the value and its span are written.
+ *
+ * PERGIDAU_END: there is no such value. The kind and the span of the innermost value that the
+ * pointer reaches are written: an object without the next name, an array without the next
+ * index, or a value that is neither.
+ *
+ * # Errors
+ *
+ * PERGIDAU_INVALID_POINTER: pointer is not a JSON pointer. It is empty or starts with a slash,
+ * and 0 or 1 follows each tilde. Zeros are written.
+ *
+ * PERGIDAU_INVALID: text is not such a JSON text, also if it is incomplete. Zeros are written.
+ * pergidau_json_diagnose reports where and why.
+ *
+ * PERGIDAU_MAX_DEPTH_TOO_LARGE: max_depth is above 512. Zeros are written.
+ *
+ * # Safety
+ *
+ * text must be valid for reads of text_length bytes and pointer for reads of pointer_length
+ * bytes, which must not change during the call. out must be valid for writes of one item, and
+ * must not overlap the others. The call needs 512 KiB of stack.
+ */
+enum pergidau_code pergidau_json_pointer(
+    const uint8_t *text,
+    size_t text_length,
+    size_t max_depth,
+    const uint8_t *pointer,
+    size_t pointer_length,
+    struct pergidau_json_item *out);
+
+/*
  * Finds the next step of a walk through a JSON text (RFC 8259) that was checked, from its
  * start to its end and through all levels. A step is a bracket, a name, or a value that
  * contains no others. It follows whitespace, at most one comma or colon, and whitespace.
@@ -2508,6 +2616,39 @@ enum pergidau_code pergidau_json_string(
     uint8_t *buffer,
     size_t buffer_length,
     struct pergidau_json_text *out);
+
+/*
+ * Writes bytes as a JSON string (RFC 8259), in quotes. A quote, a backslash and the bytes
+ * below 32 are escaped as in RFC 8785, section 3.2.2.2: by \", \\, \b, \f, \n, \r, \t, or \u00
+ * and two digits with small letters. All other bytes are unchanged.
+ *
+ * The string is JSON if the bytes are UTF-8, which is not checked. It has at most six bytes
+ * for each byte, and two more. pergidau_json_string reads the same bytes from it, whatever
+ * follows.
+ *
+ * PERGIDAU_DONE: the string is written at the start of buffer, and its length into out. The
+ * other bytes of the buffer are unchanged.
+ *
+ * The function does not allocate. It scans the bytes twice, so that it writes nothing if the
+ * buffer is too small.
+ *
+ * # Errors
+ *
+ * PERGIDAU_BUFFER_TOO_SMALL: the string is longer than the buffer. Its length is written, and
+ * the buffer is unchanged.
+ *
+ * # Safety
+ *
+ * bytes must be valid for reads of bytes_length bytes, which must not change during the call.
+ * buffer must be valid for writes of buffer_length bytes, and out for writes of one length.
+ * None of these may overlap. The call needs 16 KiB of stack.
+ */
+enum pergidau_code pergidau_json_write_string(
+    const uint8_t *bytes,
+    size_t bytes_length,
+    uint8_t *buffer,
+    size_t buffer_length,
+    size_t *out);
 
 /*
  * Parses a line of the form key=value. For lines of INI files, use pergidau_ini_next.

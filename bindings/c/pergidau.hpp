@@ -545,6 +545,38 @@ inline result<std::uint64_t> json_natural(input bytes) noexcept
 }
 
 /*
+ * Finds the first member of a name in an object among the nodes that json_nodes wrote for the
+ * text.
+ */
+inline result<std::size_t> json_node_member(
+    input text,
+    view<const pergidau_json_node> nodes,
+    std::size_t index,
+    input name,
+    std::uint32_t is_token) noexcept
+{
+    result<std::size_t> out{};
+    out.code = pergidau_json_node_member(
+        text.data(), text.size(), nodes.data(), nodes.size(), index, name.data(), name.size(),
+        is_token, &out.value);
+    return out;
+}
+
+/*
+ * Finds an element of an array, by its position from 0 on, among the nodes that json_nodes
+ * wrote.
+ */
+inline result<std::size_t> json_node_element(
+    view<const pergidau_json_node> nodes,
+    std::size_t index,
+    std::size_t position) noexcept
+{
+    result<std::size_t> out{};
+    out.code = pergidau_json_node_element(nodes.data(), nodes.size(), index, position, &out.value);
+    return out;
+}
+
+/*
  * Finds the first member of a name in the object (RFC 8259) that bytes starts with, after
  * whitespace, at most one comma or colon, and whitespace.
  */
@@ -576,6 +608,22 @@ inline result<std::size_t> json_nodes(
 }
 
 /*
+ * Finds the value that a JSON pointer (RFC 6901) identifies in a JSON text (RFC 8259) whose
+ * arrays and objects are nested at most max_depth deep: /a~1b/0 is the first element of the
+ * member a/b, and the empty pointer is the value of the text.
+ */
+inline result<pergidau_json_item> json_pointer(
+    input text,
+    std::size_t max_depth,
+    input pointer) noexcept
+{
+    result<pergidau_json_item> out{};
+    out.code = pergidau_json_pointer(
+        text.data(), text.size(), max_depth, pointer.data(), pointer.size(), &out.value);
+    return out;
+}
+
+/*
  * Finds the next step of a walk through a JSON text (RFC 8259) that was checked, from its start
  * to its end and through all levels.
  */
@@ -594,6 +642,15 @@ inline result<pergidau_json_text> json_string(input bytes, output buffer) noexce
 {
     result<pergidau_json_text> out{};
     out.code = pergidau_json_string(
+        bytes.data(), bytes.size(), buffer.data(), buffer.size(), &out.value);
+    return out;
+}
+
+/* Writes bytes as a JSON string (RFC 8259), in quotes. */
+inline result<std::size_t> json_write_string(input bytes, output buffer) noexcept
+{
+    result<std::size_t> out{};
+    out.code = pergidau_json_write_string(
         bytes.data(), bytes.size(), buffer.data(), buffer.size(), &out.value);
     return out;
 }

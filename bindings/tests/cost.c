@@ -58,14 +58,15 @@ void *__wrap_realloc(void *block, size_t size)
     return grown;
 }
 
-enum call { CALC, PAIR, DOCUMENT, ENTRY, LOOKUP, CHECK, VALUE, NEXT, STEP, STRING, INTEGER, NATURAL, DECIMAL, DIAGNOSE, MEMBER, NODES, VALUE_EXTENT, HEAD,
+enum call { CALC, PAIR, DOCUMENT, ENTRY, LOOKUP, CHECK, VALUE, NEXT, STEP, STRING, INTEGER, NATURAL, DECIMAL, DIAGNOSE, MEMBER, NODES, POINTER, NODE_MEMBER, NODE_ELEMENT, JSON_WRITE, VALUE_EXTENT, HEAD,
             HEAD_IN_PIECES, HEAD_EXTENT, REQUEST_BODY, FIELD, RESPONSE, RESPONSE_IN_PIECES, RESPONSE_EXTENT, RECORD, RECORD_IN_PIECES,
             RECORD_EXTENT, CSV_WRITE, REPLY, REPLY_IN_PIECES, EXTENT, RESP_NODES, COMMAND, CHUNKED, POSITION,
             TOML, DATE_TIME, NANOSECOND, FIND, DOUBLE, DNS_HEADER, DNS_NAME, DNS_QUESTION, DNS_RECORD };
 static const char *const names[] = {
     "calc_value", "pair_line", "pair_document", "ini_next", "ini_get", "json_check", "json_value", "json_next",
     "json_step", "json_string", "json_integer", "json_natural", "json_decimal", "json_diagnose",
-    "json_member", "json_nodes", "json_extent", "http_head", "http_head_partial",
+    "json_member", "json_nodes", "json_pointer", "json_node_member",
+    "json_node_element", "json_write_string", "json_extent", "http_head", "http_head_partial",
     "http_head_extent", "http_request_body", "http_field", "http_response_head", "http_response_head_partial",
     "http_response_head_extent", "csv_record",
     "csv_record_partial", "csv_record_extent", "csv_write", "resp_reply", "resp_reply_partial",
@@ -127,6 +128,11 @@ static const struct {
     {MEMBER, "{\"b\":", "[", "", LENGTH, 0, 512},
     {MEMBER, "{", "\"a\":1,", "", LENGTH / 6, 0, 512},
     {MEMBER, "{\"", "\\u0061", "\":1}", LENGTH / 6, 0, 512},
+    {POINTER, "{\"b\":", "[", "", LENGTH, 0, 512},
+    {POINTER, "{", "\"b\":1,", "\"a\":2}", LENGTH / 6, 0, 512},
+    {NODE_MEMBER, "\"", "\\u0061", "\"", LENGTH / 6, 0, 16},
+    {NODE_ELEMENT, "", "", "", LENGTH, 0, 16},
+    {JSON_WRITE, "", "\1", "", LENGTH, 0, 16},
     {HEAD, "GET / HTTP/1.1\r\n", "a:\r\n", "\r\n", LENGTH / 4, 0, 16},
     {HEAD, "GET / HTTP/1.1\r\na: ", "b", "\r\n\r\n", LENGTH, 0, 16},
     {HEAD, "GET / HTTP/1.1\r\n", "a:\r\n", "", POWER + 1, 0, 16},
@@ -246,6 +252,10 @@ static enum pergidau_code call(enum call which, size_t max_depth)
     struct pergidau_dns_question question;
     struct pergidau_dns_record resource;
     struct pergidau_bytes slice = {bytes, length};
+    const struct pergidau_json_node named[] = {{PERGIDAU_JSON_OBJECT, 0, 0, 3}, {PERGIDAU_JSON_NAME, 0, 0, 2},
+                                               {PERGIDAU_JSON_NULL, 0, 0, 3}};
+    const struct pergidau_json_node listed[] = {{PERGIDAU_JSON_ARRAY, 0, 0, 3}, {PERGIDAU_JSON_NULL, 0, 0, 2},
+                                                {PERGIDAU_JSON_NULL, 0, 0, 3}};
     size_t found;
     switch (which) {
     case CALC:
@@ -281,6 +291,14 @@ static enum pergidau_code call(enum call which, size_t max_depth)
         return pergidau_json_member(bytes, length, max_depth, bytes, length, 0, &found);
     case NODES:
         return pergidau_json_nodes(bytes, length, max_depth, NULL, 0, &found);
+    case POINTER:
+        return pergidau_json_pointer(bytes, length, max_depth, (const uint8_t *)"/a", 2, &item);
+    case NODE_MEMBER:
+        return pergidau_json_node_member(bytes, length, named, 3, 0, bytes, length, 0, &found);
+    case NODE_ELEMENT:
+        return pergidau_json_node_element(listed, 3, 0, 1, &found);
+    case JSON_WRITE:
+        return pergidau_json_write_string(bytes, length, written, sizeof written, &found);
     case VALUE_EXTENT:
         return pergidau_json_extent(&value, bytes, length, 1, written, sizeof written, &found);
     case HEAD:

@@ -1300,6 +1300,7 @@ static void test_library(void)
 #include "trailers_rows.h"
 #include "resp_nodes_rows.h"
 #include "writing_rows.h"
+#include "json_write_rows.h"
 
 int main(void)
 {
@@ -1309,6 +1310,8 @@ int main(void)
     test_json();
     test_steps();
     test_nodes();
+    test_node_lookups();
+    test_written_strings();
     test_json_extents();
     test_strings();
     test_integers();

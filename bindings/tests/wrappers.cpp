@@ -148,9 +148,13 @@ static void json_and_toml()
     EXPECT(pergidau::json_diagnose("[1,]", 1)->error == PERGIDAU_JSON_ERROR_VALUE);
     EXPECT(*pergidau::json_integer("-5") == -5 && *pergidau::json_natural("5") == 5);
     EXPECT(*pergidau::json_member("{\"a/b\": 1}", 1, "a~1b", true) == 6);
+    EXPECT(pergidau::json_pointer("{\"a/b\": [1]}", 2, "/a~1b/0")->span.offset == 9);
     EXPECT(*pergidau::json_nodes("{\"a\": [1]}", 2, nodes) == 4 && nodes[1].next == 2);
+    EXPECT(*pergidau::json_node_member("{\"a\": [1]}", nodes, 0, "a", false) == 2);
+    EXPECT(*pergidau::json_node_element(nodes, 2, 0) == 3);
     EXPECT(pergidau::json_step("[1]")->kind == PERGIDAU_JSON_BEGIN_ARRAY);
     EXPECT(pergidau::json_string("\"\\u0061\"", buffer)->text == 1 && buffer[0] == 'a');
+    EXPECT(*pergidau::json_write_string("a\"\n", buffer) == 7);
     pergidau_json_value_state state{};
     EXPECT(*pergidau::json_extent(state, " [1] 2", 0, buffer) == 4);
     EXPECT(*pergidau::json_extent(state, " 2", 1, buffer) == 2);

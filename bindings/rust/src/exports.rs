@@ -41,6 +41,9 @@ pub const OUT_OF_RANGE: u32 = 12;
 /// bytes, and the line ending one of the constants.
 pub const INVALID_DIALECT: u32 = 13;
 
+/// Invalid JSON pointer (RFC 6901).
+pub const INVALID_POINTER: u32 = 14;
+
 /// A carriage return and a line feed end a record, as in RFC 4180.
 pub const CSV_CRLF: u32 = 0;
 
@@ -2292,6 +2295,65 @@ extern "C" {
         out: *mut u64,
     ) -> u32;
 
+    /// Finds the first member of a name in an object among the nodes that `exported_json_nodes` wrote for
+    /// the text. Names are compared with their escapes decoded, as `exported_json_member` does; also
+    /// `is_token` is as there.
+    ///
+    /// The nodes of the members themselves are visited, whatever these contain, and only names of the
+    /// text are read.
+    ///
+    /// `DONE`: the index of the node of the member's value is written.
+    ///
+    /// `END`: no member has the name. 0 is written.
+    ///
+    /// # Errors
+    ///
+    /// `INVALID`: the node at `index` is not an object, or there is none. Or, for nodes of another text, a
+    /// node precedes the one before it, or a name is not a string in the text. 0 is written.
+    ///
+    /// # Safety
+    ///
+    /// `text` must be valid for reads of `text_length` bytes, `nodes` for reads of `nodes_length` entries
+    /// and `name` for reads of `name_length` bytes, which must not change during the call. `out` must be
+    /// valid for writes of one index, and must not overlap the others. The call needs 16 KiB of stack.
+    pub fn exported_json_node_member(
+        text: *const u8,
+        text_length: usize,
+        nodes: *const JsonNode,
+        nodes_length: usize,
+        index: usize,
+        name: *const u8,
+        name_length: usize,
+        is_token: u32,
+        out: *mut usize,
+    ) -> u32;
+
+    /// Finds an element of an array, by its position from 0 on, among the nodes that
+    /// `exported_json_nodes` wrote. The nodes of the elements before it are visited, whatever these
+    /// contain.
+    ///
+    /// `DONE`: the index of the node of the element is written.
+    ///
+    /// `END`: the array has no more elements than `position`. 0 is written.
+    ///
+    /// # Errors
+    ///
+    /// `INVALID`: the node at `index` is not an array, or there is none. Or, for nodes of no text, a node
+    /// precedes the one before it. 0 is written.
+    ///
+    /// # Safety
+    ///
+    /// `nodes` must be valid for reads of `nodes_length` entries, which must not change during the call.
+    /// `out` must be valid for writes of one index, and must not overlap them. The call needs 16 KiB of
+    /// stack.
+    pub fn exported_json_node_element(
+        nodes: *const JsonNode,
+        nodes_length: usize,
+        index: usize,
+        position: usize,
+        out: *mut usize,
+    ) -> u32;
+
     /// Finds the first member of a name in the object (RFC 8259) that `bytes` starts with, after
     /// whitespace, at most one comma or colon, and whitespace. Names are compared with their escapes
     /// decoded: `{"\u0061": 1}` has a member `a`.
@@ -2373,6 +2435,47 @@ extern "C" {
         out: *mut usize,
     ) -> u32;
 
+    /// Finds the value that a JSON pointer (RFC 6901) identifies in a JSON text (RFC 8259) whose arrays
+    /// and objects are nested at most `max_depth` deep: `/a~1b/0` is the first element of the member
+    /// `a/b`, and the empty pointer is the value of the text. If names are repeated, the first is found.
+    ///
+    /// `~1` is a slash and `~0` a tilde. Names are compared with their escapes decoded. An index is
+    /// digits without a leading zero; `-`, the index after the last element, has no value.
+    ///
+    /// Each byte is scanned once, and once more for each token of the pointer whose value contains it.
+    /// Bytes after the value of the text are not scanned, and bytes of 128 and above are not checked: so
+    /// a result is that of the text if `exported_json_check` accepts it.
+    ///
+    /// `DONE`: the kind of the value and its span are written.
+    ///
+    /// `END`: there is no such value. The kind and the span of the innermost value that the pointer
+    /// reaches are written: an object without the next name, an array without the next index, or a value
+    /// that is neither.
+    ///
+    /// # Errors
+    ///
+    /// `INVALID_POINTER`: `pointer` is not a JSON pointer. It is empty or starts with a slash, and `0` or
+    /// `1` follows each tilde. Zeros are written.
+    ///
+    /// `INVALID`: `text` is not such a JSON text, also if it is incomplete. Zeros are written.
+    /// `exported_json_diagnose` reports where and why.
+    ///
+    /// `MAX_DEPTH_TOO_LARGE`: `max_depth` is above 512. Zeros are written.
+    ///
+    /// # Safety
+    ///
+    /// `text` must be valid for reads of `text_length` bytes and `pointer` for reads of `pointer_length`
+    /// bytes, which must not change during the call. `out` must be valid for writes of one item, and must
+    /// not overlap the others. The call needs 512 KiB of stack.
+    pub fn exported_json_pointer(
+        text: *const u8,
+        text_length: usize,
+        max_depth: usize,
+        pointer: *const u8,
+        pointer_length: usize,
+        out: *mut JsonItem,
+    ) -> u32;
+
     /// Finds the next step of a walk through a JSON text (RFC 8259) that was checked, from its start to
     /// its end and through all levels. A step is a bracket, a name, or a value that contains no others.
     /// It follows whitespace, at most one comma or colon, and whitespace.
@@ -2436,6 +2539,37 @@ extern "C" {
         buffer: *mut u8,
         buffer_length: usize,
         out: *mut JsonText,
+    ) -> u32;
+
+    /// Writes bytes as a JSON string (RFC 8259), in quotes. A quote, a backslash and the bytes below 32 are
+    /// escaped as in RFC 8785, section 3.2.2.2: by `\"`, `\\`, `\b`, `\f`, `\n`, `\r`, `\t`, or `\u00`
+    /// and two digits with small letters. All other bytes are unchanged.
+    ///
+    /// The string is JSON if the bytes are UTF-8, which is not checked. It has at most six bytes for each
+    /// byte, and two more. `exported_json_string` reads the same bytes from it, whatever follows.
+    ///
+    /// `DONE`: the string is written at the start of `buffer`, and its length into `out`. The other bytes
+    /// of the buffer are unchanged.
+    ///
+    /// The function does not allocate. It scans the bytes twice, so that it writes nothing if the buffer is
+    /// too small.
+    ///
+    /// # Errors
+    ///
+    /// `BUFFER_TOO_SMALL`: the string is longer than the buffer. Its length is written, and the buffer is
+    /// unchanged.
+    ///
+    /// # Safety
+    ///
+    /// `bytes` must be valid for reads of `bytes_length` bytes, which must not change during the call.
+    /// `buffer` must be valid for writes of `buffer_length` bytes, and `out` for writes of one length.
+    /// None of these may overlap. The call needs 16 KiB of stack.
+    pub fn exported_json_write_string(
+        bytes: *const u8,
+        bytes_length: usize,
+        buffer: *mut u8,
+        buffer_length: usize,
+        out: *mut usize,
     ) -> u32;
 
     /// Parses a line of the form `key=value`. For lines of INI files, use `exported_ini_next`.

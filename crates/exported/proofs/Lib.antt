@@ -14,7 +14,10 @@ pub mod JsonDecimals
 pub mod JsonDiagnostics
 pub mod JsonExtent
 pub mod JsonIntegers
+pub mod JsonNodes
+pub mod JsonPointers
 pub mod JsonTexts
+pub mod JsonWrite
 pub mod Nodes
 pub mod Putting
 pub mod RecordExtent

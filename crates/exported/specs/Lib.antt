@@ -17,8 +17,11 @@ pub mod JsonDiagnostic
 pub mod JsonExtent
 pub mod JsonInteger
 pub mod JsonMember
+pub mod JsonNodes
+pub mod JsonPointer
 pub mod JsonStep
 pub mod JsonString
+pub mod JsonWrite
 pub mod Output
 pub mod Pairs
 pub mod Resp
