@@ -248,7 +248,7 @@ FAULTS = [
     *of(RUST + "json/scalars.rs",
         ("a number out of range is 0", "pub fn as_i64", "fits(code).then_some(out)", "Some(out)"),
         ("an integer has no sign", "pub fn as_u64", "exported_json_natural(bytes.as_ptr(), bytes.len(), &mut out)", "exported_json_integer(bytes.as_ptr(), bytes.len(), (&mut out as *mut u64).cast())"),
-        ("a double is rounded to 32 bits", "pub fn as_f64", "parse()", "parse::<f32>().map(f64::from)"),
+        ("a double is rounded to 32 bits", "pub fn as_f64", "double(self.text)", "double(self.text).map(|it| f64::from(it as f32))"),
         ("a string is a number", "fn number", "self.kind == Kind::Number", "self.kind != Kind::Array"),
         ("an escape is not decoded", "pub fn as_str_into", "!self.text.contains('\\\\')", "true"),
         ("a text has its first quote", "pub fn as_str_into", "self.text.get(1..", "self.text.get(0.."),
