@@ -131,7 +131,7 @@ static const struct {
     {POINTER, "{\"b\":", "[", "", LENGTH, 0, 512},
     {POINTER, "{", "\"b\":1,", "\"a\":2}", LENGTH / 6, 0, 512},
     {NODE_MEMBER, "\"", "\\u0061", "\"", LENGTH / 6, 0, 16},
-    {NODE_ELEMENT, "", "", "", LENGTH, 0, 16},
+    {NODE_ELEMENT, "", "a", "", LENGTH, 0, 16},
     {JSON_WRITE, "", "\1", "", LENGTH, 0, 16},
     {HEAD, "GET / HTTP/1.1\r\n", "a:\r\n", "\r\n", LENGTH / 4, 0, 16},
     {HEAD, "GET / HTTP/1.1\r\na: ", "b", "\r\n\r\n", LENGTH, 0, 16},
