@@ -111,6 +111,22 @@ uint32_t exported_http_field(
     const uint8_t *name,
     size_t name_length,
     size_t *out);
+uint32_t exported_http_request_framing(
+    const uint8_t *bytes,
+    size_t bytes_length,
+    const struct pergidau_field *fields,
+    size_t fields_length,
+    const struct pergidau_head *head,
+    struct pergidau_http_framing *out);
+uint32_t exported_http_response_framing(
+    const uint8_t *method,
+    size_t method_length,
+    const uint8_t *bytes,
+    size_t bytes_length,
+    const struct pergidau_field *fields,
+    size_t fields_length,
+    const struct pergidau_response_head *head,
+    struct pergidau_http_framing *out);
 uint32_t exported_http_response_head(
     const uint8_t *bytes,
     size_t bytes_length,
@@ -1202,6 +1218,92 @@ enum pergidau_code pergidau_http_field(
         name = &no_name;
     }
     return (enum pergidau_code)exported_http_field(bytes, bytes_length, fields, fields_length, name, name_length, out);
+}
+
+enum pergidau_code pergidau_http_request_framing(
+    const uint8_t *bytes,
+    size_t bytes_length,
+    const struct pergidau_field *fields,
+    size_t fields_length,
+    const struct pergidau_head *head,
+    struct pergidau_http_framing *out)
+{
+    const uint8_t no_bytes = {0};
+    const struct pergidau_field no_fields = {0};
+    if (bytes_length > PTRDIFF_MAX / sizeof(uint8_t)) {
+        return PERGIDAU_TOO_LONG;
+    }
+    if (bytes == NULL && bytes_length > 0) {
+        return PERGIDAU_NULL;
+    }
+    if (fields_length > PTRDIFF_MAX / sizeof(struct pergidau_field)) {
+        return PERGIDAU_TOO_LONG;
+    }
+    if (fields == NULL && fields_length > 0) {
+        return PERGIDAU_NULL;
+    }
+    if (head == NULL) {
+        return PERGIDAU_NULL;
+    }
+    if (out == NULL) {
+        return PERGIDAU_NULL;
+    }
+    if (bytes == NULL) {
+        bytes = &no_bytes;
+    }
+    if (fields == NULL) {
+        fields = &no_fields;
+    }
+    return (enum pergidau_code)exported_http_request_framing(bytes, bytes_length, fields, fields_length, head, out);
+}
+
+enum pergidau_code pergidau_http_response_framing(
+    const uint8_t *method,
+    size_t method_length,
+    const uint8_t *bytes,
+    size_t bytes_length,
+    const struct pergidau_field *fields,
+    size_t fields_length,
+    const struct pergidau_response_head *head,
+    struct pergidau_http_framing *out)
+{
+    const uint8_t no_method = {0};
+    const uint8_t no_bytes = {0};
+    const struct pergidau_field no_fields = {0};
+    if (method_length > PTRDIFF_MAX / sizeof(uint8_t)) {
+        return PERGIDAU_TOO_LONG;
+    }
+    if (method == NULL && method_length > 0) {
+        return PERGIDAU_NULL;
+    }
+    if (bytes_length > PTRDIFF_MAX / sizeof(uint8_t)) {
+        return PERGIDAU_TOO_LONG;
+    }
+    if (bytes == NULL && bytes_length > 0) {
+        return PERGIDAU_NULL;
+    }
+    if (fields_length > PTRDIFF_MAX / sizeof(struct pergidau_field)) {
+        return PERGIDAU_TOO_LONG;
+    }
+    if (fields == NULL && fields_length > 0) {
+        return PERGIDAU_NULL;
+    }
+    if (head == NULL) {
+        return PERGIDAU_NULL;
+    }
+    if (out == NULL) {
+        return PERGIDAU_NULL;
+    }
+    if (method == NULL) {
+        method = &no_method;
+    }
+    if (bytes == NULL) {
+        bytes = &no_bytes;
+    }
+    if (fields == NULL) {
+        fields = &no_fields;
+    }
+    return (enum pergidau_code)exported_http_response_framing(method, method_length, bytes, bytes_length, fields, fields_length, head, out);
 }
 
 enum pergidau_code pergidau_http_response_head(

@@ -863,6 +863,24 @@ struct pergidau_http_head_state {
     size_t place;
 };
 
+/*
+ * Where a message ends, or why it must be rejected, and whether the connection persists after
+ * it.
+ */
+struct pergidau_http_framing {
+    /* The length of the body, or the reason to reject the message. */
+    struct pergidau_http_body body;
+    /*
+     * The span of what is rejected, for these errors: the target with
+     * PERGIDAU_HTTP_ERROR_INVALID_TARGET, the name of the second Host field with
+     * PERGIDAU_HTTP_ERROR_MANY_HOSTS, and the value of the Host field with
+     * PERGIDAU_HTTP_ERROR_INVALID_HOST. Empty at 0 otherwise.
+     */
+    struct pergidau_span rejected;
+    /* Whether the connection persists after the message; false after an error. */
+    bool persists;
+};
+
 /* The numbers and the places of the parts of the head of a response. */
 struct pergidau_response_head {
     /* The span of the reason phrase. If it is empty, the span is at the end of its line. */
@@ -1661,7 +1679,9 @@ enum pergidau_code pergidau_http_head_partial(
  * PERGIDAU_HTTP_BODY_LENGTH. The kind is PERGIDAU_HTTP_BODY_NONE, PERGIDAU_HTTP_BODY_CHUNKED
  * or PERGIDAU_HTTP_BODY_LENGTH.
  *
- * A call holds up to 32 bytes of memory for each byte of the head, and does not read after it.
+ * This is the form for callers that do not read the head: it parses the head, and allocates.
+ * If pergidau_http_head has parsed it, pergidau_http_request_framing does neither. A call
+ * holds up to 32 bytes of memory for each byte of the head, and does not read after it.
  *
  * # Errors
  *
@@ -1696,7 +1716,9 @@ enum pergidau_code pergidau_http_request_body(
  * PERGIDAU_DONE: the kind is written, and the length of a body of the kind
  * PERGIDAU_HTTP_BODY_LENGTH.
  *
- * A call holds up to 32 bytes of memory for each byte of the head, and does not read after it.
+ * This is the form for callers that do not read the head: it parses the head, and allocates.
+ * If pergidau_http_response_head has parsed it, pergidau_http_response_framing does neither. A
+ * call holds up to 32 bytes of memory for each byte of the head, and does not read after it.
  *
  * # Errors
  *
@@ -1898,6 +1920,80 @@ enum pergidau_code pergidau_http_field(
     const uint8_t *name,
     size_t name_length,
     size_t *out);
+
+/*
+ * Determines where the request ends whose head pergidau_http_head or
+ * pergidau_http_head_partial wrote for these bytes, or why a server must respond with status
+ * 400 and close the connection, and whether the connection persists. It does not parse the
+ * head again.
+ *
+ * fields has the fields of the head; entries after its number of fields are not read.
+ *
+ * PERGIDAU_DONE: the length of the body is written, by the rules of
+ * pergidau_http_request_body, and whether the connection persists after the request (RFC 9112,
+ * section 9.3): not with the option close in a Connection field; otherwise with HTTP/1.1 or
+ * later, and with HTTP/1.0 and the option keep-alive, which a proxy must ignore. Options are
+ * compared ignoring ASCII case.
+ *
+ * If head and fields are not those of these bytes, the result is that of the bytes at their
+ * positions, as far as these are within bytes. The function does not allocate.
+ *
+ * # Errors
+ *
+ * PERGIDAU_INVALID: the request must be rejected. The reason is written, and if it is the
+ * target or a Host field, its position.
+ *
+ * # Safety
+ *
+ * bytes must be valid for reads of bytes_length bytes, fields for reads of fields_length
+ * entries and head for reads of one head, which must not change during the call. out must be
+ * valid for writes of one framing, and must not overlap the others. The call needs 16 KiB of
+ * stack.
+ */
+enum pergidau_code pergidau_http_request_framing(
+    const uint8_t *bytes,
+    size_t bytes_length,
+    const struct pergidau_field *fields,
+    size_t fields_length,
+    const struct pergidau_head *head,
+    struct pergidau_http_framing *out);
+
+/*
+ * Determines where the response ends whose head pergidau_http_response_head or
+ * pergidau_http_response_head_partial wrote for these bytes, to a request with this method, or
+ * why a client must discard the response and close the connection, and whether the connection
+ * persists. It does not parse the head again.
+ *
+ * fields has the fields of the head; entries after its number of fields are not read.
+ *
+ * PERGIDAU_DONE: the length of the body is written, by the rules of
+ * pergidau_http_response_body, and whether the connection persists after the response, as for
+ * requests. It does not if the body ends with the connection, or the connection has become a
+ * tunnel.
+ *
+ * If head and fields are not those of these bytes, the result is that of the bytes at their
+ * positions, as far as these are within bytes. The function does not allocate.
+ *
+ * # Errors
+ *
+ * PERGIDAU_INVALID: the response must be rejected. The reason is written.
+ *
+ * # Safety
+ *
+ * method must be valid for reads of method_length bytes, bytes for reads of bytes_length
+ * bytes, fields for reads of fields_length entries and head for reads of one head, which must
+ * not change during the call. out must be valid for writes of one framing, and must not
+ * overlap the others. The call needs 16 KiB of stack.
+ */
+enum pergidau_code pergidau_http_response_framing(
+    const uint8_t *method,
+    size_t method_length,
+    const uint8_t *bytes,
+    size_t bytes_length,
+    const struct pergidau_field *fields,
+    size_t fields_length,
+    const struct pergidau_response_head *head,
+    struct pergidau_http_framing *out);
 
 /*
  * Parses the head of an HTTP/1.1 response (RFC 9112) at the start of bytes: a status line,

@@ -397,6 +397,40 @@ inline result<std::size_t> http_field(
 }
 
 /*
+ * Determines where the request ends whose head http_head or http_head_partial wrote for these
+ * bytes, or why a server must respond with status 400 and close the connection, and whether the
+ * connection persists.
+ */
+inline result<pergidau_http_framing> http_request_framing(
+    input bytes,
+    view<const pergidau_field> fields,
+    const pergidau_head &head) noexcept
+{
+    result<pergidau_http_framing> out{};
+    out.code = pergidau_http_request_framing(
+        bytes.data(), bytes.size(), fields.data(), fields.size(), &head, &out.value);
+    return out;
+}
+
+/*
+ * Determines where the response ends whose head http_response_head or http_response_head_partial
+ * wrote for these bytes, to a request with this method, or why a client must discard the
+ * response and close the connection, and whether the connection persists.
+ */
+inline result<pergidau_http_framing> http_response_framing(
+    input method,
+    input bytes,
+    view<const pergidau_field> fields,
+    const pergidau_response_head &head) noexcept
+{
+    result<pergidau_http_framing> out{};
+    out.code = pergidau_http_response_framing(
+        method.data(), method.size(), bytes.data(), bytes.size(), fields.data(), fields.size(),
+        &head, &out.value);
+    return out;
+}
+
+/*
  * Parses the head of an HTTP/1.1 response (RFC 9112) at the start of bytes: a status line, field
  * lines, and an empty line.
  */

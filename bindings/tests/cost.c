@@ -59,7 +59,7 @@ void *__wrap_realloc(void *block, size_t size)
 }
 
 enum call { CALC, PAIR, DOCUMENT, ENTRY, LOOKUP, CHECK, VALUE, NEXT, STEP, STRING, INTEGER, NATURAL, DECIMAL, DIAGNOSE, MEMBER, NODES, POINTER, NODE_MEMBER, NODE_ELEMENT, JSON_WRITE, VALUE_EXTENT, HEAD,
-            HEAD_IN_PIECES, HEAD_EXTENT, REQUEST_BODY, FIELD, RESPONSE, RESPONSE_IN_PIECES, RESPONSE_EXTENT, RECORD, RECORD_IN_PIECES,
+            HEAD_IN_PIECES, HEAD_EXTENT, REQUEST_BODY, REQUEST_FRAMING, RESPONSE_FRAMING, FIELD, RESPONSE, RESPONSE_IN_PIECES, RESPONSE_EXTENT, RECORD, RECORD_IN_PIECES,
             RECORD_EXTENT, CSV_WRITE, REPLY, REPLY_IN_PIECES, EXTENT, RESP_NODES, COMMAND, CHUNKED, POSITION,
             TOML, DATE_TIME, NANOSECOND, FIND, DOUBLE, DNS_HEADER, DNS_NAME, DNS_QUESTION, DNS_RECORD };
 static const char *const names[] = {
@@ -67,7 +67,8 @@ static const char *const names[] = {
     "json_step", "json_string", "json_integer", "json_natural", "json_decimal", "json_diagnose",
     "json_member", "json_nodes", "json_pointer", "json_node_member",
     "json_node_element", "json_write_string", "json_extent", "http_head", "http_head_partial",
-    "http_head_extent", "http_request_body", "http_field", "http_response_head", "http_response_head_partial",
+    "http_head_extent", "http_request_body", "http_request_framing", "http_response_framing",
+    "http_field", "http_response_head", "http_response_head_partial",
     "http_response_head_extent", "csv_record",
     "csv_record_partial", "csv_record_extent", "csv_write", "resp_reply", "resp_reply_partial",
     "resp_extent", "resp_nodes", "resp_command", "http_chunked", "text_position", "toml_document",
@@ -145,6 +146,8 @@ static const struct {
     {REQUEST_BODY, "A b HTTP/1.1\r\nhost:\r\n", "a:\r\n", "\r\n", POWER + 1, 32, 16},
     {REQUEST_BODY, "A b HTTP/1.1\r\nhost:\r\ncontent-length:", "5,", "5\r\n\r\n", LENGTH / 2, 32, 16},
     {REQUEST_BODY, "A b HTTP/1.1\r\nhost:\r\ntransfer-encoding:", "a,", "chunked\r\n\r\n", LENGTH / 2, 32, 16},
+    {REQUEST_FRAMING, "/transfer-encoding", "a,", "chunked", LENGTH / 2, 0, 16},
+    {RESPONSE_FRAMING, "/transfer-encoding", "a;b=\",\",", "chunked", LENGTH / 8, 0, 16},
     {FIELD, "", "a", "", LENGTH, 0, 16},
     {RESPONSE, "HTTP/1.1 200 ", "b", "\r\n\r\n", LENGTH, 0, 16},
     {RESPONSE_IN_PIECES, "HTTP/1.1 200\r\n", "a:\r\n", "", POWER + 1, 0, 16},
@@ -231,6 +234,11 @@ static enum pergidau_code call(enum call which, size_t max_depth)
     struct pergidau_http_head_state passed = {0};
     struct pergidau_http_body body;
     struct pergidau_field field = {{0, length}, {0, 0}};
+    /* A head whose target is the first byte, and whose field has a name of 17 bytes. */
+    const struct pergidau_head framed = {.target = {0, 1}, .fields = 1, .major = 2};
+    const struct pergidau_response_head answered = {.fields = 1, .status = 200, .major = 2};
+    const struct pergidau_field coding = {{1, 17}, {18, length - 18}};
+    struct pergidau_http_framing framing;
     struct pergidau_response_head response;
     struct pergidau_record record;
     struct pergidau_csv_record_state fields = {0};
@@ -309,6 +317,10 @@ static enum pergidau_code call(enum call which, size_t max_depth)
         return pergidau_http_head_extent(&passed, bytes, length, &found);
     case REQUEST_BODY:
         return pergidau_http_request_body(bytes, length, &body);
+    case REQUEST_FRAMING:
+        return pergidau_http_request_framing(bytes, length, &coding, 1, &framed, &framing);
+    case RESPONSE_FRAMING:
+        return pergidau_http_response_framing(bytes, 1, bytes, length, &coding, 1, &answered, &framing);
     case FIELD:
         return pergidau_http_field(bytes, length, &field, 1, bytes, length, &found);
     case RESPONSE:

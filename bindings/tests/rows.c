@@ -1335,6 +1335,7 @@ int main(void)
     test_resp_nodes();
     test_bodies();
     test_body_lengths();
+    test_framings();
     test_fields();
     test_toml();
     test_date_times();

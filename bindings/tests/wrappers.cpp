@@ -121,8 +121,12 @@ static void http()
     EXPECT(pergidau::http_head("PUT", fields).code == PERGIDAU_INVALID);
     EXPECT(pergidau::http_head_partial("PUT", fields).code == PERGIDAU_INCOMPLETE);
     EXPECT(pergidau::http_request_body(request)->length == 3);
+    const auto framing = pergidau::http_request_framing(request, fields, *head);
+    EXPECT(framing && framing->body.length == 3 && framing->persists);
     EXPECT(pergidau::http_response_body("GET", response)->kind == PERGIDAU_HTTP_BODY_UNTIL_CLOSE);
-    EXPECT(pergidau::http_response_head(response, fields)->status == 200);
+    const auto status = pergidau::http_response_head(response, fields);
+    EXPECT(status->status == 200);
+    EXPECT(!pergidau::http_response_framing("GET", response, fields, *status)->persists);
     EXPECT(pergidau::http_response_head("HTTP", fields).code == PERGIDAU_INVALID);
     EXPECT(pergidau::http_response_head_partial("HTTP", fields).code == PERGIDAU_INCOMPLETE);
     pergidau_http_head_state state{}, other{};

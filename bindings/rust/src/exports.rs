@@ -853,6 +853,20 @@ pub struct HttpHeadState {
     pub place: usize,
 }
 
+/// Where a message ends, or why it must be rejected, and whether the connection persists after it.
+#[repr(C)]
+#[derive(Clone, Copy, Debug, Default, PartialEq, Eq)]
+pub struct HttpFraming {
+    /// The length of the body, or the reason to reject the message.
+    pub body: HttpBody,
+    /// The span of what is rejected, for these errors: the target with `HTTP_ERROR_INVALID_TARGET`,
+    /// the name of the second Host field with `HTTP_ERROR_MANY_HOSTS`, and the value of the Host
+    /// field with `HTTP_ERROR_INVALID_HOST`. Empty at 0 otherwise.
+    pub rejected: Span,
+    /// Whether the connection persists after the message; false after an error.
+    pub persists: bool,
+}
+
 /// The numbers and the places of the parts of the head of a response.
 #[repr(C)]
 #[derive(Clone, Copy, Debug, Default, PartialEq, Eq)]
@@ -1632,7 +1646,9 @@ extern "C" {
     /// `DONE`: the kind is written, and the length of a body of the kind `HTTP_BODY_LENGTH`. The kind
     /// is `HTTP_BODY_NONE`, `HTTP_BODY_CHUNKED` or `HTTP_BODY_LENGTH`.
     ///
-    /// A call holds up to 32 bytes of memory for each byte of the head, and does not read after it.
+    /// This is the form for callers that do not read the head: it parses the head, and allocates. If
+    /// `exported_http_head` has parsed it, `exported_http_request_framing` does neither. A call holds
+    /// up to 32 bytes of memory for each byte of the head, and does not read after it.
     ///
     /// # Errors
     ///
@@ -1665,7 +1681,9 @@ extern "C" {
     ///
     /// `DONE`: the kind is written, and the length of a body of the kind `HTTP_BODY_LENGTH`.
     ///
-    /// A call holds up to 32 bytes of memory for each byte of the head, and does not read after it.
+    /// This is the form for callers that do not read the head: it parses the head, and allocates. If
+    /// `exported_http_response_head` has parsed it, `exported_http_response_framing` does neither. A
+    /// call holds up to 32 bytes of memory for each byte of the head, and does not read after it.
     ///
     /// # Errors
     ///
@@ -1855,6 +1873,75 @@ extern "C" {
         name: *const u8,
         name_length: usize,
         out: *mut usize,
+    ) -> u32;
+
+    /// Determines where the request ends whose head `exported_http_head` or
+    /// `exported_http_head_partial` wrote for these bytes, or why a server must respond with status 400
+    /// and close the connection, and whether the connection persists. It does not parse the head again.
+    ///
+    /// `fields` has the fields of the head; entries after its number of fields are not read.
+    ///
+    /// `DONE`: the length of the body is written, by the rules of `exported_http_request_body`, and
+    /// whether the connection persists after the request (RFC 9112, section 9.3): not with the option
+    /// `close` in a Connection field; otherwise with HTTP/1.1 or later, and with HTTP/1.0 and the
+    /// option `keep-alive`, which a proxy must ignore. Options are compared ignoring ASCII case.
+    ///
+    /// If `head` and `fields` are not those of these bytes, the result is that of the bytes at their
+    /// positions, as far as these are within `bytes`. The function does not allocate.
+    ///
+    /// # Errors
+    ///
+    /// `INVALID`: the request must be rejected. The reason is written, and if it is the target or a
+    /// Host field, its position.
+    ///
+    /// # Safety
+    ///
+    /// `bytes` must be valid for reads of `bytes_length` bytes, `fields` for reads of `fields_length`
+    /// entries and `head` for reads of one head, which must not change during the call. `out` must be
+    /// valid for writes of one framing, and must not overlap the others. The call needs 16 KiB of
+    /// stack.
+    pub fn exported_http_request_framing(
+        bytes: *const u8,
+        bytes_length: usize,
+        fields: *const Field,
+        fields_length: usize,
+        head: *const Head,
+        out: *mut HttpFraming,
+    ) -> u32;
+
+    /// Determines where the response ends whose head `exported_http_response_head` or
+    /// `exported_http_response_head_partial` wrote for these bytes, to a request with this method, or
+    /// why a client must discard the response and close the connection, and whether the connection
+    /// persists. It does not parse the head again.
+    ///
+    /// `fields` has the fields of the head; entries after its number of fields are not read.
+    ///
+    /// `DONE`: the length of the body is written, by the rules of `exported_http_response_body`, and
+    /// whether the connection persists after the response, as for requests. It does not if the body
+    /// ends with the connection, or the connection has become a tunnel.
+    ///
+    /// If `head` and `fields` are not those of these bytes, the result is that of the bytes at their
+    /// positions, as far as these are within `bytes`. The function does not allocate.
+    ///
+    /// # Errors
+    ///
+    /// `INVALID`: the response must be rejected. The reason is written.
+    ///
+    /// # Safety
+    ///
+    /// `method` must be valid for reads of `method_length` bytes, `bytes` for reads of `bytes_length`
+    /// bytes, `fields` for reads of `fields_length` entries and `head` for reads of one head, which
+    /// must not change during the call. `out` must be valid for writes of one framing, and must not
+    /// overlap the others. The call needs 16 KiB of stack.
+    pub fn exported_http_response_framing(
+        method: *const u8,
+        method_length: usize,
+        bytes: *const u8,
+        bytes_length: usize,
+        fields: *const Field,
+        fields_length: usize,
+        head: *const ResponseHead,
+        out: *mut HttpFraming,
     ) -> u32;
 
     /// Parses the head of an HTTP/1.1 response (RFC 9112) at the start of `bytes`: a status line, field

@@ -6,6 +6,7 @@ pub mod Entries
 pub mod ErrorKinds
 pub mod Extent
 pub mod HeadExtent
+pub mod HttpFraming
 pub mod IniEntries
 pub mod IniLookups
 pub mod IniTexts

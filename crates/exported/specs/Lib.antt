@@ -10,6 +10,7 @@ pub mod Http
 pub mod HttpBody
 pub mod HttpExtent
 pub mod HttpField
+pub mod HttpFraming
 pub mod Ini
 pub mod Json
 pub mod JsonDecimal
