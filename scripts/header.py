@@ -37,7 +37,7 @@ COST = [
 ]
 # The types of single values in Rust and in C.
 PLAIN = {"u8": "uint8_t", "u16": "uint16_t", "u32": "uint32_t", "u64": "uint64_t", "i16": "int16_t",
-         "i32": "int32_t", "i64": "int64_t", "usize": "size_t", "bool": "bool"}
+         "i32": "int32_t", "i64": "int64_t", "f64": "double", "usize": "size_t", "bool": "bool"}
 
 
 def version():

@@ -303,6 +303,10 @@ uint32_t exported_text_position(
     size_t bytes_length,
     size_t offset,
     struct pergidau_position *out);
+uint32_t exported_text_double(
+    const uint8_t *bytes,
+    size_t bytes_length,
+    double *out);
 uint32_t exported_toml_document(
     const uint8_t *bytes,
     size_t bytes_length,
@@ -312,6 +316,23 @@ uint32_t exported_toml_document(
     struct pergidau_toml_node *nodes,
     size_t nodes_length,
     struct pergidau_toml_result *out);
+uint32_t exported_toml_date_time(
+    const uint8_t *bytes,
+    size_t bytes_length,
+    struct pergidau_toml_date_time_parts *out);
+uint32_t exported_toml_nanosecond(
+    const uint8_t *digits,
+    size_t digits_length,
+    uint32_t *out);
+uint32_t exported_toml_find(
+    const uint8_t *text,
+    size_t text_length,
+    const struct pergidau_toml_node *nodes,
+    size_t nodes_length,
+    size_t table,
+    const struct pergidau_bytes *names,
+    size_t names_length,
+    size_t *out);
 
 const char pergidau_abi_1 = 0;
 
@@ -2141,6 +2162,27 @@ enum pergidau_code pergidau_text_position(
     return (enum pergidau_code)exported_text_position(bytes, bytes_length, offset, out);
 }
 
+enum pergidau_code pergidau_text_double(
+    const uint8_t *bytes,
+    size_t bytes_length,
+    double *out)
+{
+    const uint8_t no_bytes = {0};
+    if (bytes_length > PTRDIFF_MAX / sizeof(uint8_t)) {
+        return PERGIDAU_TOO_LONG;
+    }
+    if (bytes == NULL && bytes_length > 0) {
+        return PERGIDAU_NULL;
+    }
+    if (out == NULL) {
+        return PERGIDAU_NULL;
+    }
+    if (bytes == NULL) {
+        bytes = &no_bytes;
+    }
+    return (enum pergidau_code)exported_text_double(bytes, bytes_length, out);
+}
+
 enum pergidau_code pergidau_toml_document(
     const uint8_t *bytes,
     size_t bytes_length,
@@ -2185,4 +2227,100 @@ enum pergidau_code pergidau_toml_document(
         nodes = &no_nodes;
     }
     return (enum pergidau_code)exported_toml_document(bytes, bytes_length, max_depth, text, text_length, nodes, nodes_length, out);
+}
+
+enum pergidau_code pergidau_toml_date_time(
+    const uint8_t *bytes,
+    size_t bytes_length,
+    struct pergidau_toml_date_time_parts *out)
+{
+    const uint8_t no_bytes = {0};
+    if (bytes_length > PTRDIFF_MAX / sizeof(uint8_t)) {
+        return PERGIDAU_TOO_LONG;
+    }
+    if (bytes == NULL && bytes_length > 0) {
+        return PERGIDAU_NULL;
+    }
+    if (out == NULL) {
+        return PERGIDAU_NULL;
+    }
+    if (bytes == NULL) {
+        bytes = &no_bytes;
+    }
+    return (enum pergidau_code)exported_toml_date_time(bytes, bytes_length, out);
+}
+
+enum pergidau_code pergidau_toml_nanosecond(
+    const uint8_t *digits,
+    size_t digits_length,
+    uint32_t *out)
+{
+    const uint8_t no_digits = {0};
+    if (digits_length > PTRDIFF_MAX / sizeof(uint8_t)) {
+        return PERGIDAU_TOO_LONG;
+    }
+    if (digits == NULL && digits_length > 0) {
+        return PERGIDAU_NULL;
+    }
+    if (out == NULL) {
+        return PERGIDAU_NULL;
+    }
+    if (digits == NULL) {
+        digits = &no_digits;
+    }
+    return (enum pergidau_code)exported_toml_nanosecond(digits, digits_length, out);
+}
+
+enum pergidau_code pergidau_toml_find(
+    const uint8_t *text,
+    size_t text_length,
+    const struct pergidau_toml_node *nodes,
+    size_t nodes_length,
+    size_t table,
+    const struct pergidau_bytes *names,
+    size_t names_length,
+    size_t *out)
+{
+    const uint8_t no_text = {0};
+    const struct pergidau_toml_node no_nodes = {0};
+    const struct pergidau_bytes no_names = {0};
+    if (text_length > PTRDIFF_MAX / sizeof(uint8_t)) {
+        return PERGIDAU_TOO_LONG;
+    }
+    if (text == NULL && text_length > 0) {
+        return PERGIDAU_NULL;
+    }
+    if (nodes_length > PTRDIFF_MAX / sizeof(struct pergidau_toml_node)) {
+        return PERGIDAU_TOO_LONG;
+    }
+    if (nodes == NULL && nodes_length > 0) {
+        return PERGIDAU_NULL;
+    }
+    if (names_length > PTRDIFF_MAX / sizeof(struct pergidau_bytes)) {
+        return PERGIDAU_TOO_LONG;
+    }
+    if (names == NULL && names_length > 0) {
+        return PERGIDAU_NULL;
+    }
+    if (out == NULL) {
+        return PERGIDAU_NULL;
+    }
+    for (size_t at = 0; at < names_length; at++) {
+        if (names[at].bytes_length > PTRDIFF_MAX) {
+            return PERGIDAU_TOO_LONG;
+        }
+        if (names[at].bytes == NULL) {
+            return PERGIDAU_NULL;
+        }
+    }
+    if (text == NULL) {
+        text = &no_text;
+    }
+    if (nodes == NULL) {
+        nodes = &no_nodes;
+    }
+    if (names == NULL) {
+        names = &no_names;
+    }
+    return (enum pergidau_code)exported_toml_find(text, text_length, nodes, nodes_length, table, names, names_length, out);
 }

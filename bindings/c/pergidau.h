@@ -1236,6 +1236,31 @@ struct pergidau_toml_result {
     enum pergidau_toml_error error;
 };
 
+/* A date, a time, or both, as numbers. Those of a part that is missing are 0. */
+struct pergidau_toml_date_time_parts {
+    /*
+     * Which parts there are: one of the kinds PERGIDAU_TOML_OFFSET_DATE_TIME to
+     * PERGIDAU_TOML_LOCAL_TIME.
+     */
+    enum pergidau_toml_kind kind;
+    /* The nanosecond of the second, from 0 to 999,999,999. */
+    uint32_t nanosecond;
+    /* The year, from 0 to 9999. */
+    uint16_t year;
+    /* How many minutes the time is ahead of UTC, below zero to the west. */
+    int16_t offset;
+    /* The month, from 1 to 12. */
+    uint8_t month;
+    /* The day, from 1 to the last of its month. */
+    uint8_t day;
+    /* The hour, from 0 to 23. */
+    uint8_t hour;
+    /* The minute, from 0 to 59. */
+    uint8_t minute;
+    /* The second, from 0 to 60, which is a leap second. */
+    uint8_t second;
+};
+
 /*
  * Evaluates a formula of integers, such as -2 * 3! ^ 2.
  *
@@ -3026,6 +3051,33 @@ enum pergidau_code pergidau_text_position(
     struct pergidau_position *out);
 
 /*
+ * Converts the text of a decimal number to the nearest double; of two, the one whose last bit
+ * is 0. This includes floats of TOML as a node has them, numbers of JSON, and doubles of
+ * Redis. It does not depend on the locale.
+ *
+ * The text is a sign or none, and digits with a point before, between or after them or none,
+ * and an exponent or none: e or E, a sign or none, and digits. Or it is inf, infinity or nan
+ * after a sign or none, in letters of either case.
+ *
+ * PERGIDAU_DONE: the double is written. A number that is too large gives an infinity, and one
+ * that is nearer to 0 than to other doubles a zero with its sign.
+ *
+ * # Errors
+ *
+ * PERGIDAU_INVALID: the bytes are not such a text. 0 is written.
+ *
+ * # Safety
+ *
+ * bytes must be valid for reads of bytes_length bytes, which must not change during the call,
+ * and out must be valid for writes of one double. They must not overlap. The call needs 16 KiB
+ * of stack.
+ */
+enum pergidau_code pergidau_text_double(
+    const uint8_t *bytes,
+    size_t bytes_length,
+    double *out);
+
+/*
  * Parses a document of TOML 1.0 (toml.io/en/v1.0.0) whose tables and arrays are nested at most
  * max_depth deep. [a] and a.b = 1 nest a table in the root table, one level deep.
  *
@@ -3077,6 +3129,86 @@ enum pergidau_code pergidau_toml_document(
     struct pergidau_toml_node *nodes,
     size_t nodes_length,
     struct pergidau_toml_result *out);
+
+/*
+ * Converts the text of a date, a time or both to numbers. It is a date-time of TOML 1.0, as
+ * 1979-05-27T00:32:00.999999-07:00, so each timestamp of RFC 3339 is one. Date and time are
+ * separated by T, t or a space. The day exists in its month. A second of 60 is accepted in
+ * each minute. Digits of a fraction after the ninth are cut off.
+ *
+ * PERGIDAU_DONE: the numbers are written. The kind tells which parts there are: those of a
+ * part that is missing are 0.
+ *
+ * A call holds up to 4 bytes of memory for each byte of a fraction.
+ *
+ * # Errors
+ *
+ * PERGIDAU_INVALID: the bytes are not a date, a time or both. Zeros are written.
+ *
+ * PERGIDAU_NO_MEMORY: the digits of a fraction could not be copied. Zeros are written.
+ *
+ * # Safety
+ *
+ * bytes must be valid for reads of bytes_length bytes, which must not change during the call,
+ * and out must be valid for writes of one date-time. They must not overlap. The call needs 16
+ * KiB of stack.
+ */
+enum pergidau_code pergidau_toml_date_time(
+    const uint8_t *bytes,
+    size_t bytes_length,
+    struct pergidau_toml_date_time_parts *out);
+
+/*
+ * Converts the digits of the fraction of a second to nanoseconds: those that a node of a time
+ * has in the text. Digits after the ninth are cut off.
+ *
+ * PERGIDAU_DONE: the nanoseconds are written, from 0 to 999,999,999. Without digits, they are
+ * 0.
+ *
+ * # Errors
+ *
+ * PERGIDAU_INVALID: not all bytes are digits. 0 is written.
+ *
+ * # Safety
+ *
+ * digits must be valid for reads of digits_length bytes, which must not change during the
+ * call, and out must be valid for writes of one number. They must not overlap. The call needs
+ * 16 KiB of stack.
+ */
+enum pergidau_code pergidau_toml_nanosecond(
+    const uint8_t *digits,
+    size_t digits_length,
+    uint32_t *out);
+
+/*
+ * Finds what a TOML document has at a path of names: the value of the key server.port along
+ * the names server and port. text and nodes are those that pergidau_toml_document wrote for
+ * it, with the sizes that it reported. The path starts in the node of number table; the first
+ * node, of number 0, is the root table.
+ *
+ * PERGIDAU_DONE: the number of the node is written. Without names it is table.
+ *
+ * PERGIDAU_END: there is nothing at the path, or no node has the number table. 0 is written.
+ *
+ * A call looks at each entry that precedes the one of each name in its table. In other nodes
+ * it may find another node, or none.
+ *
+ * # Safety
+ *
+ * text must be valid for reads of text_length bytes, nodes for reads of nodes_length entries,
+ * names for reads of names_length entries, and the bytes of each name for reads of its length.
+ * They must not change during the call. out must be valid for writes of one number, and must
+ * not overlap the others. The call needs 16 KiB of stack.
+ */
+enum pergidau_code pergidau_toml_find(
+    const uint8_t *text,
+    size_t text_length,
+    const struct pergidau_toml_node *nodes,
+    size_t nodes_length,
+    size_t table,
+    const struct pergidau_bytes *names,
+    size_t names_length,
+    size_t *out);
 
 #ifdef __cplusplus
 }

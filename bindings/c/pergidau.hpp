@@ -2,7 +2,7 @@
 /*
  * The functions of pergidau.h for C++17 and later, in the namespace pergidau, without the prefix of
  * their names. Each calls the function in C and does nothing else. pergidau.h documents them, and
- * has the types and constants. Only json_double, at the end, has no function in C.
+ * has the types and constants.
  *
  * Bytes to read are passed as an input, to which texts and containers of bytes convert, and buffers
  * to write as a view of a container. The result has the code, and in value what the function in C
@@ -18,10 +18,6 @@
 #include <string_view>
 #include <type_traits>
 #include <utility>
-
-#if __has_include(<charconv>)
-#include <charconv>
-#endif
 
 #include "pergidau.h"
 
@@ -791,6 +787,17 @@ inline result<pergidau_position> text_position(input bytes, std::size_t offset) 
 }
 
 /*
+ * Converts the text of a decimal number to the nearest double; of two, the one whose last bit is
+ * 0.
+ */
+inline result<double> text_double(input bytes) noexcept
+{
+    result<double> out{};
+    out.code = pergidau_text_double(bytes.data(), bytes.size(), &out.value);
+    return out;
+}
+
+/*
  * Parses a document of TOML 1.0 (toml.io/en/v1.0.0) whose tables and arrays are nested at most
  * max_depth deep.
  */
@@ -807,34 +814,42 @@ inline result<pergidau_toml_result> toml_document(
     return out;
 }
 
-#ifdef __cpp_lib_to_chars
-/*
- * Returns the nearest double of the JSON number that bytes starts with; of two, the one whose last
- * bit is 0. It does not depend on the locale. std::from_chars converts the number, so this is not
- * proved, and is here only if the standard library has it for doubles, as that of gcc 11 and later.
- *
- * PERGIDAU_OUT_OF_RANGE: the number is too large, or nearer to 0 than to other doubles, but not 0.
- * The value is 0.
- *
- * PERGIDAU_INVALID: bytes does not start with a number. The value is 0.
- */
-inline result<double> json_double(input bytes) noexcept
+/* Converts the text of a date, a time or both to numbers. */
+inline result<pergidau_toml_date_time_parts> toml_date_time(input bytes) noexcept
 {
-    result<double> out{PERGIDAU_INVALID, 0};
-    std::size_t length = 0;
-    if (bytes.size() > 0 && (bytes[0] == '-' || (bytes[0] >= '0' && bytes[0] <= '9'))) {
-        out.code = pergidau_json_value(bytes.data(), bytes.size(), 0, &length);
-    }
-    if (out.code == PERGIDAU_DONE) {
-        const char *const first = text(bytes).data();
-        if (std::from_chars(first, first + length, out.value).ec != std::errc()) {
-            out = {PERGIDAU_OUT_OF_RANGE, 0};
-        }
-    }
+    result<pergidau_toml_date_time_parts> out{};
+    out.code = pergidau_toml_date_time(bytes.data(), bytes.size(), &out.value);
     return out;
 }
 
-#endif
+/*
+ * Converts the digits of the fraction of a second to nanoseconds: those that a node of a time
+ * has in the text.
+ */
+inline result<std::uint32_t> toml_nanosecond(input digits) noexcept
+{
+    result<std::uint32_t> out{};
+    out.code = pergidau_toml_nanosecond(digits.data(), digits.size(), &out.value);
+    return out;
+}
+
+/*
+ * Finds what a TOML document has at a path of names: the value of the key server.port along the
+ * names server and port.
+ */
+inline result<std::size_t> toml_find(
+    input text,
+    view<const pergidau_toml_node> nodes,
+    std::size_t table,
+    view<const pergidau_bytes> names) noexcept
+{
+    result<std::size_t> out{};
+    out.code = pergidau_toml_find(
+        text.data(), text.size(), nodes.data(), nodes.size(), table, names.data(), names.size(),
+        &out.value);
+    return out;
+}
+
 } // namespace pergidau
 
 #endif

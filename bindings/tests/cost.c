@@ -61,7 +61,7 @@ void *__wrap_realloc(void *block, size_t size)
 enum call { CALC, PAIR, DOCUMENT, ENTRY, LOOKUP, CHECK, VALUE, NEXT, STEP, STRING, INTEGER, NATURAL, DECIMAL, DIAGNOSE, MEMBER, NODES, POINTER, NODE_MEMBER, NODE_ELEMENT, JSON_WRITE, VALUE_EXTENT, HEAD,
             HEAD_IN_PIECES, HEAD_EXTENT, REQUEST_BODY, REQUEST_FRAMING, RESPONSE_FRAMING, FIELD, RESPONSE, RESPONSE_IN_PIECES, RESPONSE_EXTENT, RECORD, RECORD_IN_PIECES,
             RECORD_EXTENT, CSV_WRITE, REPLY, REPLY_IN_PIECES, EXTENT, RESP_NODES, COMMAND, CHUNKED, POSITION,
-            TOML, DNS_HEADER, DNS_NAME, DNS_QUESTION, DNS_RECORD };
+            TOML, DATE_TIME, NANOSECOND, FIND, DOUBLE, DNS_HEADER, DNS_NAME, DNS_QUESTION, DNS_RECORD };
 static const char *const names[] = {
     "calc_value", "pair_line", "pair_document", "ini_next", "ini_get", "json_check", "json_value", "json_next",
     "json_step", "json_string", "json_integer", "json_natural", "json_decimal", "json_diagnose",
@@ -72,6 +72,7 @@ static const char *const names[] = {
     "http_response_head_extent", "csv_record",
     "csv_record_partial", "csv_record_extent", "csv_write", "resp_reply", "resp_reply_partial",
     "resp_extent", "resp_nodes", "resp_command", "http_chunked", "text_position", "toml_document",
+    "toml_date_time", "toml_nanosecond", "toml_find", "text_double",
     "dns_message_header", "dns_name_at", "dns_question_at", "dns_record_at",
 };
 
@@ -185,6 +186,12 @@ static const struct {
     {CHUNKED, "0\r\na:", "b", "\r\n\r\n", LENGTH, 0, 16},
     {CHUNKED, "ffffff\r\n", "b", "", LENGTH, 0, 16},
     {POSITION, "", "\xc3\xa9\n", "", LENGTH / 3, 0, 16},
+    {DATE_TIME, "00:00:00.", "5", "", LENGTH, 4, 16},
+    {DATE_TIME, "00:00:00.", "5", "", POWER + 1, 4, 16},
+    {NANOSECOND, "", "5", "", LENGTH, 0, 16},
+    {FIND, "", "a", "", LENGTH, 0, 16},
+    {DOUBLE, "0.", "5", "", LENGTH, 0, 16},
+    {DOUBLE, "1e", "9", "", LENGTH, 0, 16},
     {TOML, "", "\n", "", POWER + 1, 600, 1024},
     {TOML, "a=", "[", "", LENGTH, 600, 1024},
     {TOML, "a=", "{a=", "", LENGTH / 3, 600, 1024},
@@ -244,6 +251,10 @@ static enum pergidau_code call(enum call which, size_t max_depth)
     struct pergidau_chunked_step step;
     struct pergidau_position position;
     struct pergidau_toml_result toml;
+    struct pergidau_toml_date_time_parts parts;
+    struct pergidau_toml_node table[2] = {{.first = 1}, {.name = {0, length}}};
+    uint32_t nanosecond;
+    double real;
     struct pergidau_dns_header header;
     struct pergidau_dns_name name;
     struct pergidau_dns_question question;
@@ -340,6 +351,14 @@ static enum pergidau_code call(enum call which, size_t max_depth)
         return pergidau_http_chunked(&chunked, bytes, length, &step);
     case TOML:
         return pergidau_toml_document(bytes, length, max_depth, NULL, 0, NULL, 0, &toml);
+    case DATE_TIME:
+        return pergidau_toml_date_time(bytes, length, &parts);
+    case NANOSECOND:
+        return pergidau_toml_nanosecond(bytes, length, &nanosecond);
+    case FIND:
+        return pergidau_toml_find(bytes, length, table, 2, 0, &slice, 1, &found);
+    case DOUBLE:
+        return pergidau_text_double(bytes, length, &real);
     case DNS_HEADER:
         return pergidau_dns_message_header(bytes, length, &header);
     case DNS_NAME:

@@ -426,6 +426,7 @@ static void read_chunked(const uint8_t *bytes, size_t length)
 #include "json_pointer_fuzz.h"
 #include "json_write_fuzz.h"
 #include "resp_nodes_fuzz.h"
+#include "toml_values_fuzz.h"
 #include "toml_fuzz.h"
 #include "writing_fuzz.h"
 
@@ -463,6 +464,9 @@ static void read_all(const uint8_t *bytes, size_t length)
     read_chunked(bytes, length);
     read_body(bytes, length);
     read_toml(bytes, length);
+    read_date_times(bytes, length);
+    read_doubles(bytes, length);
+    find_anywhere(bytes, length);
     read_place(bytes, length);
     write_slices(bytes, length);
     write_string(bytes, length);

@@ -1,4 +1,5 @@
 /* Tables of the readers' tests, and invalid arguments, from C. Exits with 1 if a row differs. */
+#include <math.h>
 #include <stdbool.h>
 #include <stdio.h>
 #include <stdlib.h>
@@ -33,6 +34,7 @@ static uint8_t *copied(const char *text, size_t length)
 #include "json_nodes_rows.h"
 #include "json_rows.h"
 #include "toml_rows.h"
+#include "toml_values_rows.h"
 
 static const struct {
     const char *text;
@@ -1336,6 +1338,9 @@ int main(void)
     test_framings();
     test_fields();
     test_toml();
+    test_date_times();
+    test_searches();
+    test_doubles();
     test_positions();
     test_writing();
     test_dns();

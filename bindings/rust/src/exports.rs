@@ -1215,6 +1215,30 @@ pub struct TomlResult {
     pub error: u32,
 }
 
+/// A date, a time, or both, as numbers. Those of a part that is missing are 0.
+#[repr(C)]
+#[derive(Clone, Copy, Debug, Default, PartialEq, Eq)]
+pub struct TomlDateTimeParts {
+    /// Which parts there are: one of the kinds `TOML_OFFSET_DATE_TIME` to `TOML_LOCAL_TIME`.
+    pub kind: u32,
+    /// The nanosecond of the second, from 0 to 999,999,999.
+    pub nanosecond: u32,
+    /// The year, from 0 to 9999.
+    pub year: u16,
+    /// How many minutes the time is ahead of UTC, below zero to the west.
+    pub offset: i16,
+    /// The month, from 1 to 12.
+    pub month: u8,
+    /// The day, from 1 to the last of its month.
+    pub day: u8,
+    /// The hour, from 0 to 23.
+    pub hour: u8,
+    /// The minute, from 0 to 59.
+    pub minute: u8,
+    /// The second, from 0 to 60, which is a leap second.
+    pub second: u8,
+}
+
 extern "C" {
     /// A symbol that only a library of this ABI has.
     #[link_name = "pergidau_abi_1"]
@@ -2926,6 +2950,32 @@ extern "C" {
         out: *mut Position,
     ) -> u32;
 
+    /// Converts the text of a decimal number to the nearest double; of two, the one whose last bit is
+    /// 0. This includes floats of TOML as a node has them, numbers of JSON, and doubles of Redis. It
+    /// does not depend on the locale.
+    ///
+    /// The text is a sign or none, and digits with a point before, between or after them or none, and
+    /// an exponent or none: `e` or `E`, a sign or none, and digits. Or it is `inf`, `infinity` or `nan`
+    /// after a sign or none, in letters of either case.
+    ///
+    /// `DONE`: the double is written. A number that is too large gives an infinity, and one that is
+    /// nearer to 0 than to other doubles a zero with its sign.
+    ///
+    /// # Errors
+    ///
+    /// `INVALID`: the bytes are not such a text. 0 is written.
+    ///
+    /// # Safety
+    ///
+    /// `bytes` must be valid for reads of `bytes_length` bytes, which must not change during the call,
+    /// and `out` must be valid for writes of one double. They must not overlap. The call needs 16 KiB
+    /// of stack.
+    pub fn exported_text_double(
+        bytes: *const u8,
+        bytes_length: usize,
+        out: *mut f64,
+    ) -> u32;
+
     /// Parses a document of TOML 1.0 (toml.io/en/v1.0.0) whose tables and arrays are nested at most
     /// `max_depth` deep. `[a]` and `a.b = 1` nest a table in the root table, one level deep.
     ///
@@ -2974,6 +3024,82 @@ extern "C" {
         nodes: *mut TomlNode,
         nodes_length: usize,
         out: *mut TomlResult,
+    ) -> u32;
+
+    /// Converts the text of a date, a time or both to numbers. It is a date-time of TOML 1.0, as
+    /// `1979-05-27T00:32:00.999999-07:00`, so each timestamp of RFC 3339 is one. Date and time are
+    /// separated by `T`, `t` or a space. The day exists in its month. A second of 60 is accepted in
+    /// each minute. Digits of a fraction after the ninth are cut off.
+    ///
+    /// `DONE`: the numbers are written. The kind tells which parts there are: those of a part that is
+    /// missing are 0.
+    ///
+    /// A call holds up to 4 bytes of memory for each byte of a fraction.
+    ///
+    /// # Errors
+    ///
+    /// `INVALID`: the bytes are not a date, a time or both. Zeros are written.
+    ///
+    /// `NO_MEMORY`: the digits of a fraction could not be copied. Zeros are written.
+    ///
+    /// # Safety
+    ///
+    /// `bytes` must be valid for reads of `bytes_length` bytes, which must not change during the call,
+    /// and `out` must be valid for writes of one date-time. They must not overlap. The call needs 16
+    /// KiB of stack.
+    pub fn exported_toml_date_time(
+        bytes: *const u8,
+        bytes_length: usize,
+        out: *mut TomlDateTimeParts,
+    ) -> u32;
+
+    /// Converts the digits of the fraction of a second to nanoseconds: those that a node of a time has
+    /// in the text. Digits after the ninth are cut off.
+    ///
+    /// `DONE`: the nanoseconds are written, from 0 to 999,999,999. Without digits, they are 0.
+    ///
+    /// # Errors
+    ///
+    /// `INVALID`: not all bytes are digits. 0 is written.
+    ///
+    /// # Safety
+    ///
+    /// `digits` must be valid for reads of `digits_length` bytes, which must not change during the
+    /// call, and `out` must be valid for writes of one number. They must not overlap. The call needs 16
+    /// KiB of stack.
+    pub fn exported_toml_nanosecond(
+        digits: *const u8,
+        digits_length: usize,
+        out: *mut u32,
+    ) -> u32;
+
+    /// Finds what a TOML document has at a path of names: the value of the key `server.port` along the
+    /// names `server` and `port`. `text` and `nodes` are those that `exported_toml_document` wrote for
+    /// it, with the sizes that it reported. The path starts in the node of number `table`; the first
+    /// node, of number 0, is the root table.
+    ///
+    /// `DONE`: the number of the node is written. Without names it is `table`.
+    ///
+    /// `END`: there is nothing at the path, or no node has the number `table`. 0 is written.
+    ///
+    /// A call looks at each entry that precedes the one of each name in its table. In other nodes it
+    /// may find another node, or none.
+    ///
+    /// # Safety
+    ///
+    /// `text` must be valid for reads of `text_length` bytes, `nodes` for reads of `nodes_length`
+    /// entries, `names` for reads of `names_length` entries, and the bytes of each name for reads of
+    /// its length. They must not change during the call. `out` must be valid for writes of one number,
+    /// and must not overlap the others. The call needs 16 KiB of stack.
+    pub fn exported_toml_find(
+        text: *const u8,
+        text_length: usize,
+        nodes: *const TomlNode,
+        nodes_length: usize,
+        table: usize,
+        names: *const Bytes,
+        names_length: usize,
+        out: *mut usize,
     ) -> u32;
 }
 

@@ -26,4 +26,5 @@ pub mod Records
 pub mod Refusals
 pub mod Replies
 pub mod RespCommand
+pub mod TomlFind
 pub mod Turns

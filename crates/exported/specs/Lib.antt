@@ -28,5 +28,7 @@ pub mod Pairs
 pub mod Resp
 pub mod Span
 pub mod Toml
+pub mod TomlDateTimes
 pub mod TomlErrors
+pub mod TomlFind
 pub mod Turns
