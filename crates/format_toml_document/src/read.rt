@@ -23,7 +23,7 @@ use std::str;
 /// ```
 #[derive(Drop)]
 pub struct Document<A: Allocator> {
-    lines: Vec<Option<Item<A>>, A>,
+    lines: Vec<Item<A>, A>,
 }
 
 impl<A: Allocator + Copy> Document<A> {

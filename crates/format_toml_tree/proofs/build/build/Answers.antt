@@ -2,12 +2,10 @@ use Rattle.std.proofs.Common.{[], ◌≡◌, Result, Err, refl, subst, sym, ◌+
 use Rattle.format_toml_tree.specs.Answer.{answers_fault, no_memory, answers_tree}
 use Rattle.format_toml_tree.specs.Holds.{AddsLine}
 use Rattle.format_toml_tree.proofs.Lines.{LeftToAdd, all_added, all_in_order, left_added}
-use Rattle.format_toml_tree.proofs.Lines.{left_blank, left_first}
-use Rattle.format_toml_tree.proofs.Lines.{line_refused, none_of, some_place, stands}
+use Rattle.format_toml_tree.proofs.Lines.{left_first, line_refused, some_place, stands}
 use Rattle.format_toml_tree.specs.Runs.{Gives, empty}
 use Rattle.format_toml_tree.specs.declared.build.TreeError.{TreeError}
 use Rattle.format_toml_tree.proofs.build.build.Goals as goal
-use Rattle.format_toml_tree.proofs.build.build.Goals.{in-Some+in-Ok, in_default}
 use Rattle.format_toml_tree.proofs.KeysLemmas.{err_is}
 
 pub loop-line-init : goal.loop-line-init
@@ -26,28 +24,15 @@ returns-in-Err-clause-refused g c line why e =
     let old = c.loop-line.tree.slots.items in
     let new = c.add_line.new.self.slots.items in
     subst (λ l. Gives c.args.level (empty, []) 0 lines (Err (l, why))) (sym at) (line_refused _ _
-    _ _ _ c.loop-line.invariant _ c.loop-line-test.true c.index-lines-line.is _ c.in-Some.is _ new
-    (subst (λ s. AddsLine c.args.level old c.loop-line.table c.in-Some.item (Err s) new) stop
+    _ _ _ c.loop-line.invariant _ c.loop-line-test.true c.index-lines-line.is _ new
+    (subst (λ s. AddsLine c.args.level old c.loop-line.table c.index-lines-line.result
+    (Err s) new) stop
     c.in-Err.ensures))
 
 pub loop-line-preserved : goal.loop-line-preserved
 loop-line-preserved g c =
-    let lines = c.args.lines.now in
-    let k = c.loop-line.line in
-    let slots = c.match-lines-line.tree.slots.items in
-    let level = c.args.level in
-    elim c.match-lines-line.branch [
-      | in-Some+in-Ok w ↦
-          subst (λ t. LeftToAdd level lines (k + 1) t slots) (sym w.table-is)
-          (subst (λ t. LeftToAdd level lines (k + 1) w.in-Ok.next t.slots.items) (sym
-          w.tree-is) (left_added _ _ _ _ _ c.loop-line.invariant _ c.loop-line-test.true
-          c.index-lines-line.is _ w.in-Some.is _ _ w.in-Ok.ensures))
-      | in_default w ↦
-          subst (λ t. LeftToAdd level lines (k + 1) t slots) (sym w.table-is)
-          (subst (λ t. LeftToAdd level lines (k + 1) c.loop-line.table t.slots.items) (sym
-          w.tree-is) (left_blank _ _ _ _ _ c.loop-line.invariant _ c.loop-line-test.true
-          c.index-lines-line.is (none_of _ w.in_default.not-Some)))
-    ]
+    left_added _ _ _ _ _ c.loop-line.invariant _ c.loop-line-test.true c.index-lines-line.is _ _
+    c.in-Ok.ensures
 
 pub returns-clause-accepted : goal.returns-clause-accepted
 returns-clause-accepted g c = (
