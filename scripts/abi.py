@@ -33,8 +33,11 @@ def checksum(parts):
 
 
 def shape(written, structs):
-    """Returns a type with the names and types of the fields of its struct."""
+    """Returns a type with the names and types of the fields of its struct, but not the struct's name,
+    which no program holds."""
     inside = [it for it in structs if it.name in re.findall(r"\w+", written)]
+    for it in inside:
+        written = re.sub(rf"\b{it.name}\b", "struct", written)
     return [written, [[part.name, shape(part.parts[0], structs)] for it in inside for part in it.parts]]
 
 

@@ -84,13 +84,6 @@ fn verify_takes_the_output(rt: HostRuntime) {
     assert_eq!(rt; read.ok(), Some(b"ab".as_slice()));
 }
 
-#[test]
-fn outputs_are_converted(rt: HostRuntime) {
-    let number = DecUint.map(|number: u32| number);
-    let read: Result<u64, Fails> = number.output_into().parse_next(&mut "12");
-    assert_eq!(rt; read.ok(), Some(12));
-}
-
 fn numbered(count: &mut u32, input: &mut &str) -> Result<char, Fails> {
     let letter = one_of('a'..='z').parse_next(input)?;
     *count = count.saturating_add(1);

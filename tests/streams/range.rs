@@ -1,4 +1,5 @@
 //! The bounds of each form of ranges.
+use std::test::Fail;
 use stream_sets::range::Range;
 
 #[test]
@@ -18,4 +19,18 @@ fn range(rt: HostRuntime) {
         let got = (range.start_inclusive, range.end_inclusive);
         assert_eq!(rt; got, (first, last), "{row}");
     }
+}
+
+#[test]
+fn ranges_print_as_ranges(rt: HostRuntime) -> Result<(), Fail> {
+    for (range, text) in [
+        (Range::from(1..=3), "1..=3"),
+        (Range::from(1..4), "1..=3"),
+        (Range::from(2..), "2.."),
+        (Range::from(3), "3"),
+    ] {
+        assert_eq!(rt; format!(in rt.alloc(); "{range}")?.as_str(), text);
+        assert_eq!(rt; format!(in rt.alloc(); "{range:?}")?.as_str(), text);
+    }
+    Ok(())
 }

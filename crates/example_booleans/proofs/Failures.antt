@@ -27,18 +27,16 @@ use Rattle.winnow_expression.specs.declared.combinator.places.Next.TheVariants.{
   Postfix as postfix_read,
 }
 use Rattle.winnow_expression.specs.declared.combinator.places.Next.TheVariants.{Infix as infix_read}
-use Rattle.winnow_expression_trees.specs.Failure.{ReadsTo, EndedBy, RejectedBy, Unmoved}
-use Rattle.winnow_expression_trees.specs.Failure.{comes_infix}
-use Rattle.winnow_expression_trees.specs.Failure.{comes_operand, comes_postfix, comes_prefix}
-use Rattle.winnow_expression_trees.specs.Failure.{comes_start}
-use Rattle.winnow_expression_trees.specs.Items.{AreItems, FirstItems, Gives, ItemDoes, ItemRuns}
-use Rattle.winnow_expression_trees.specs.Items.{Items}
-use Rattle.winnow_expression_trees.specs.Items.{NextItems, NoItem}
+use Rattle.winnow_expression_trees.specs.Failure.{ReadsTo, EndedBy, RejectedByPrecedence}
+use Rattle.winnow_expression_trees.specs.Failure.{HasEmptyOperator, comes_infix, comes_operand}
+use Rattle.winnow_expression_trees.specs.Failure.{comes_postfix, comes_prefix, comes_start}
+use Rattle.winnow_expression_trees.specs.Items.{AreItems, FirstItems, FoldGives, ItemDoes, ItemRuns}
+use Rattle.winnow_expression_trees.specs.Items.{Items, NextItems, NoItem}
 use Rattle.winnow_expression_trees.specs.Items.Laws.{back_same, first_read, item_err, next_down}
 use Rattle.winnow_expression_trees.specs.Items.Premises.{item_run}
 use Rattle.winnow_expression_trees.specs.OneTree.{IsTheOneTree}
 use Rattle.winnow_expression_trees.specs.Premises.{NotMemory}
-use Rattle.winnow_expression_trees.specs.Reading.{FirstStep, NextStep}
+use Rattle.winnow_expression_trees.specs.Reading.{OperandStep, OperatorStep}
 
 module _ {T V F G H L : Type 0} (reading : Reading T L) (form : ErrorForm) (refusal : Kind)
     (still : (p : Place) (n : ℕ) → reading.advance p n ≡ p)
@@ -53,8 +51,8 @@ module _ {T V F G H L : Type 0} (reading : Reading T L) (form : ErrorForm) (refu
   abbrev whole : Grammar (⊤ × ⊤) (⊤ × ⊤) T V F G H
   whole = parts_grammar reading.units refusal (Ran reading (ItemDoes operand) form)
       (Ran reading (ItemDoes prefix) form) (Ran reading (ItemDoes postfix) form)
-      (Ran reading (ItemDoes infix_) form) (λ f i v a j. Gives (one f v) i a j)
-      (λ g i v a j. Gives (other g v) i a j) (λ h i v w a j. Gives (two h v w) i a j)
+      (Ran reading (ItemDoes infix_) form) (λ f i v a j. FoldGives (one f v) i a j)
+      (λ g i v a j. FoldGives (other g v) i a j) (λ h i v w a j. FoldGives (two h v w) i a j)
 
   abbrev states : (⊤ × ⊤) × (⊤ × ⊤)
   states = ((tt, tt), (tt, tt))
@@ -67,7 +65,7 @@ module _ {T V F G H L : Type 0} (reading : Reading T L) (form : ErrorForm) (refu
       states.0.1
       states.1.0 states.1.1 operands prefixes postfixes infixes i j x read).0
 
-  next_items : (i j : Input T) (x : Next G H) → NextStep whole states i x j
+  next_items : (i j : Input T) (x : Next G H) → OperatorStep whole states i x j
       → NextItems postfix infix_ i.left.tokens x j.left.tokens
   next_items i j x read =
       (next_down reading form refusal still operand prefix postfix infix_ one other two states.0.0
@@ -76,7 +74,7 @@ module _ {T V F G H L : Type 0} (reading : Reading T L) (form : ErrorForm) (refu
 
   -- ---- every operator consumes input, and no fold fails
 
-  pub none_unmoved : (i : Input T) → Unmoved whole states i → ⊥
+  pub none_unmoved : (i : Input T) → HasEmptyOperator whole states i → ⊥
   none_unmoved i (inl (k, n, p, f, comes, read, same)) =
       omega (
         arith,
@@ -98,12 +96,12 @@ module _ {T V F G H L : Type 0} (reading : Reading T L) (form : ErrorForm) (refu
       )
 
   gives_err : (given : V → Type 0) (i j : Input T) (k : Kind) → (x : V) × given x
-      → Gives given i (Err k) j → ⊥
+      → FoldGives given i (Err k) j → ⊥
   gives_err given i j k some (inl (v, is, e, place)) = ok_is_err e refl
   gives_err given i j k some (inr (none, e, place)) = none some.0 some.1
 
   pub none_refused : (level : ℤ) (i : Input T) (k : Kind) (j : Input T)
-      → RejectedBy whole states level i k j → ⊥
+      → RejectedByPrecedence whole states level i k j → ⊥
   none_refused level start kind j
       (inl (m, i, k, n, p, f, r, all, v, begins, read, over, keeps, value, refused)) =
       gives_err (one f v) n j kind (ones f v) refused
@@ -143,7 +141,7 @@ module _ {T V F G H L : Type 0} (reading : Reading T L) (form : ErrorForm) (refu
   LacksAt start place = ItemsCome start true place × NoItem operand place × NoItem prefix place
 
   comes_down : (i : Input T) (b : Bool) (k : Input T)
-      → ReadsTo (FirstStep whole states) (NextStep whole states) i b k
+      → ReadsTo (OperandStep whole states) (OperatorStep whole states) i b k
       → ItemsCome i.left.tokens b k.left.tokens
   comes_down i _ _ comes_start = comes_start
   comes_down i _ _ (comes_operand m k v before read) =

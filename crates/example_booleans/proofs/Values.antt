@@ -1,17 +1,17 @@
 -- An operator gives exactly one value.
 use Rattle.std.specs.Prelude.{Bool, true, false, if◌then◌else◌}
 use Rattle.std.proofs.Common.{refl, sym, ◌∙◌}
-use Rattle.winnow_expression_trees.specs.Items.{GivesOne}
+use Rattle.winnow_expression_trees.specs.Items.{GivesAtMostOne}
 use Rattle.example_booleans.specs.Booleans.{logic_value, not_value}
 use Rattle.example_booleans.specs.declared.booleans.Logic.{Logic}
 use Rattle.example_booleans.specs.declared.booleans.Logic.TheVariants.{And, Or, Same}
 use Rattle.example_booleans.specs.declared.booleans.Not.{Not}
 
 -- an operator gives one value
-pub one_not : (f : Not) (v : Bool) → GivesOne (not_value f v)
+pub one_not : (f : Not) (v : Bool) → GivesAtMostOne (not_value f v)
 one_not f v x y e g = e ∙ sym g
 
-pub one_logic : (f : Logic) (v w : Bool) → GivesOne (logic_value f v w)
+pub one_logic : (f : Logic) (v w : Bool) → GivesAtMostOne (logic_value f v w)
 one_logic And v w x y e g = e ∙ sym g
 one_logic Or v w x y e g = e ∙ sym g
 one_logic Same v w x y e g = e ∙ sym g

@@ -8,7 +8,7 @@ ghost use Rattle.streams.specs.Bytes.{bytes_input, bytes_reading};
 ghost use Rattle.streams.specs.Input.{IsEndOf};
 ghost use Rattle.streams.specs.Kind.{backtrack, memory};
 ghost use Rattle.stream_errors.specs.Form.{answer_by};
-ghost use Rattle.winnow_expression_trees.specs.Items.{Gives, ItemDoes, ReadsItems};
+ghost use Rattle.winnow_expression_trees.specs.Items.{FoldGives, ItemDoes, ReadsItems};
 ghost use Rattle.winnow_expression_trees.specs.Items.Premises.{gives_ends};
 ghost use Rattle.example_booleans.specs.Booleans.{ByteItem, LacksOperand, infix_at, logic_value};
 ghost use Rattle.example_booleans.specs.Booleans.{not_value, operand_at, postfix_at, prefix_at};
@@ -45,7 +45,7 @@ enum Logic {
 }
 
 impl<I: Stream, E: ParserError<I>> FoldUnary<I, bool, E> for Not {
-    ghost folds = { λ form f i v a j. Gives (not_value f v) i a j };
+    ghost folds = { λ form f i v a j. FoldGives (not_value f v) i a j };
 
     ghost leaves_ends = { λ form f i v a j r. gives_ends I.reading (not_value f v) i j a r };
 
@@ -55,7 +55,7 @@ impl<I: Stream, E: ParserError<I>> FoldUnary<I, bool, E> for Not {
 }
 
 impl<I: Stream, E: ParserError<I>> FoldBinary<I, bool, E> for Logic {
-    ghost folds = { λ form f i v w a j. Gives (logic_value f v w) i a j };
+    ghost folds = { λ form f i v w a j. FoldGives (logic_value f v w) i a j };
 
     ghost leaves_ends = { λ form f i v w a j r. gives_ends I.reading (logic_value f v w) i j a r };
 

@@ -2,7 +2,7 @@
 use Rattle.std.specs.Prelude.{◌≡◌, ◌+◌, ◌++◌, ℕ, List, [], ◌∷◌, length, take, Result}
 use Rattle.std.proofs.Common.{ap, append-nil, append_assoc, arith, length-append, refl, subst, sym}
 use Rattle.std.proofs.Common.{◌∙◌}
-use Rattle.format_http_chunked.proofs.Results.{begins}
+use Rattle.format_http_chunked.proofs.Results.{starts_with_nothing_given}
 use Rattle.format_http_chunked.specs.Decoded.{IsAnswer, IsAt, content_of, trailers_of}
 use Rattle.format_http_chunked.specs.Room.{Spends}
 use Rattle.format_http_chunked.specs.Outputs.{OutputBeforeRest}
@@ -114,4 +114,4 @@ pub calls_in_turn : (first : ChunkedState) → IsFirst first → (calls : List C
     → IsAt (decoder_of state).place taken content trailers
 calls_in_turn first is calls state taken content trailers =
     turn_by_turn calls first state [] [] [] taken content trailers
-    (subst (λ at. IsAt at [] [] []) (sym is) begins)
+    (subst (λ at. IsAt at [] [] []) (sym is) starts_with_nothing_given)

@@ -4,12 +4,12 @@ use Rattle.std.specs.Prelude.{take}
 use Rattle.std.proofs.Common.{refl, sym, ap, subst, inl, inr, ◌∙◌, arith, get_or}
 use Rattle.std.proofs.lemmas.List.{same_from_push, take_all, take_more}
 use Rattle.format_csv_records.specs.Dialects.{doubled}
-use Rattle.format_csv_records.specs.Written.{IsLast, IsWritten, ReadsBack, Writes, Wrote}
-use Rattle.format_csv_records.specs.Written.{written_end}
+use Rattle.format_csv_records.specs.Written.{IsLastWritten, IsWritten, ReadsBack, Writes}
+use Rattle.format_csv_records.specs.Written.{WrittenFields, written_end}
 use Rattle.format_csv_records.specs.declared.dialect.Dialect.{Dialect}
 use Rattle.format_csv_records.specs.declared.dialect.LineEnds.{LineEnds}
 use Rattle.format_csv_records.specs.declared.dialect.LineEnds.TheVariants.{CrLf, Either, Lf}
-use Rattle.format_csv_records.proofs.Alone.{doubled_append, doubled_none, doubled_other}
+use Rattle.format_csv_records.proofs.Alone.{doubled_append, doubled_nil, doubled_other}
 use Rattle.format_csv_records.proofs.Alone.{doubled_quote}
 use Rattle.format_csv_records.proofs.Writing.{reads_back, wrote_more}
 use Rattle.exported.proofs.Putting.{fills, puts_more, puts_none}
@@ -25,20 +25,20 @@ pub put_twice : (quote byte : ℕ) {at end last : ℕ} {old now new : List ℕ} 
 put_twice quote byte {at} {end} {last} {old} {now} {new} is one two =
     let P : List ℕ → Type 0 = λ l. Puts l at old last new in
     subst P (sym (doubled_quote quote byte [] is
-    ∙ ap (λ l. quote ∷ quote ∷ l) (doubled_none quote)))
+    ∙ ap (λ l. quote ∷ quote ∷ l) (doubled_nil quote)))
     (puts_more (quote ∷ []) (quote ∷ []) one two)
 
 pub put_once : (quote byte : ℕ) {at end : ℕ} {old new : List ℕ} → (byte ≡ quote → ⊥)
     → Puts (byte ∷ []) at old end new → Puts (doubled quote (byte ∷ [])) at old end new
 put_once quote byte {at} {end} {old} {new} not one =
     let P : List ℕ → Type 0 = λ l. Puts l at old end new in
-    subst P (sym (doubled_other quote byte [] not ∙ ap (λ l. byte ∷ l) (doubled_none quote))) one
+    subst P (sym (doubled_other quote byte [] not ∙ ap (λ l. byte ∷ l) (doubled_nil quote))) one
 
 pub quoted_begun : (quote : ℕ) (field : List ℕ) {at end : ℕ} {old new : List ℕ}
     → Puts (quote ∷ []) at old end new → Puts (quote ∷ doubled quote (take 0 field)) at old end new
 quoted_begun quote field {at} {end} {old} {new} one =
     let P : List ℕ → Type 0 = λ l. Puts (quote ∷ l) at old end new in
-    subst P (sym (doubled_none quote)) one
+    subst P (sym (doubled_nil quote)) one
 
 pub quoted_more : (quote : ℕ) (field : List ℕ) (n d : ℕ) {at end last : ℕ}
     {old now new : List ℕ} → n < length field
@@ -77,18 +77,20 @@ contents_more fields i d less =
     ∙ contents_push (take i fields) (get_or fields i d)
 
 pub others_none : (d : Dialect) (fields : List Bytes) (old : List ℕ)
-    → (text : List ℕ) × Wrote d (contents (take 0 fields)) text × Puts text 0 old 0 old
-unfolding Wrote
+    → (text : List ℕ) × WrittenFields d (contents (take 0 fields)) text × Puts text 0 old 0 old
+unfolding WrittenFields
 others_none d fields old = ([], refl, puts_none 0 old (omega arith))
 
 pub others_more : (d : Dialect) (fields : List Bytes) (n : ℕ) (x : Bytes)
     {end mid last : ℕ} {old now between new : List ℕ} → n < length fields → (text : List ℕ)
-    → Wrote d (contents (take n fields)) text → Puts text 0 old end now → (more : List ℕ)
+    → WrittenFields d (contents (take n fields)) text → Puts text 0 old end now → (more : List ℕ)
     → IsWritten d (get_or fields n x).bytes.now more → Puts more end now mid between
     → Puts (d.delimiter ∷ []) mid between last new
-    → (all : List ℕ) × Wrote d (contents (take (n + 1) fields)) all × Puts all 0 old last new
+    → (all : List ℕ) × WrittenFields d (contents (take (n + 1) fields)) all
+    × Puts all 0 old last new
 others_more d fields n x less text wrote it more is puts one =
-    let P : List (List ℕ) → Type 0 = λ l. Wrote d l (text ++ (more ++ (d.delimiter ∷ []))) in (
+    let P : List (List ℕ) → Type 0 =
+    λ l. WrittenFields d l (text ++ (more ++ (d.delimiter ∷ []))) in (
       text ++ (more ++ (d.delimiter ∷ [])),
       subst P (sym (contents_more fields n x less))
           (wrote_more d (contents (take n fields)) text (get_or fields n x).bytes.now more wrote
@@ -98,31 +100,31 @@ others_more d fields n x less text wrote it more is puts one =
     )
 
 pub others_all : (d : Dialect) (fields : List Bytes) (n : ℕ) {end : ℕ} {old new : List ℕ}
-    → length fields ≤ n → (text : List ℕ) → Wrote d (contents (take n fields)) text
+    → length fields ≤ n → (text : List ℕ) → WrittenFields d (contents (take n fields)) text
     → Puts text 0 old end new
-    → (text : List ℕ) × Wrote d (contents fields) text × Puts text 0 old end new
+    → (text : List ℕ) × WrittenFields d (contents fields) text × Puts text 0 old end new
 others_all d fields n past text wrote it =
-    let P : List Bytes → Type 0 = λ l. Wrote d (contents l) text in
+    let P : List Bytes → Type 0 = λ l. WrittenFields d (contents l) text in
     (text, subst P (take_all n fields past) wrote, it)
 
 -- ---- the last field
 
 pub last_empty : (d : Dialect) (others : List (List ℕ)) (field : List ℕ)
     → (others ≡ []) × (field ≡ [])
-    → IsLast d others field (d.quote ∷ (doubled d.quote field ++ d.quote ∷ []))
+    → IsLastWritten d others field (d.quote ∷ (doubled d.quote field ++ d.quote ∷ []))
 last_empty d others field (none, empty) = inl (
   none,
   empty,
   ap (λ l. d.quote ∷ (doubled d.quote l ++ d.quote ∷ [])) empty
-      ∙ ap (λ l. d.quote ∷ (l ++ d.quote ∷ [])) (doubled_none d.quote),
+      ∙ ap (λ l. d.quote ∷ (l ++ d.quote ∷ [])) (doubled_nil d.quote),
 )
 
 pub line_put : (d : Dialect) (fields : List Bytes) (x : Bytes) {mid end last : ℕ}
     {old now between new : List ℕ} → 0 < length fields → (close : List ℕ)
     → close ≡ line_end d.ends → (t : List ℕ)
-    → Wrote d (contents (take (length fields - 1) fields)) t → Puts t 0 old mid now
+    → WrittenFields d (contents (take (length fields - 1) fields)) t → Puts t 0 old mid now
     → (u : List ℕ)
-    → IsLast d (contents (take (length fields - 1) fields))
+    → IsLastWritten d (contents (take (length fields - 1) fields))
     (get_or fields (length fields - 1) x).bytes.now u
     → Puts u mid now end between → Puts close end between last new
     → (text : List ℕ) × IsLine d (contents fields) text × Puts text 0 old last new
@@ -152,16 +154,17 @@ written_one d field t u (inl (_, all)) (inr (_, not)) = absurd (not all)
 written_one d field t u (inr (_, not)) (inl (_, all)) = absurd (not all)
 written_one d field t u (inr (e, _)) (inr (f, _)) = e ∙ sym f
 
-wrote_one : (d : Dialect) (fields : List (List ℕ)) (t u : List ℕ) → Wrote d fields t
-    → Wrote d fields u → t ≡ u
-unfolding Wrote
+wrote_one : (d : Dialect) (fields : List (List ℕ)) (t u : List ℕ) → WrittenFields d fields t
+    → WrittenFields d fields u → t ≡ u
+unfolding WrittenFields
 wrote_one d [] t u e f = e ∙ sym f
 wrote_one d (field ∷ fields) t u (a, more, w, e, others) (b, left, v, f, rest) =
     e ∙ ap (λ l. l ++ (d.delimiter ∷ more)) (written_one d field a b w v)
     ∙ ap (λ l. b ++ (d.delimiter ∷ l)) (wrote_one d fields more left others rest) ∙ sym f
 
-last_one : (d : Dialect) (others : List (List ℕ)) (last t u : List ℕ) → IsLast d others last t
-    → IsLast d others last u → t ≡ u
+last_one : (d : Dialect) (others : List (List ℕ)) (last t u : List ℕ)
+    → IsLastWritten d others last t
+    → IsLastWritten d others last u → t ≡ u
 last_one d others last t u (inl (_, _, e)) (inl (_, _, f)) = e ∙ sym f
 last_one d others last t u (inl (none, empty, _)) (inr (not, _)) = absurd (not (none, empty))
 last_one d others last t u (inr (not, _)) (inl (none, empty, _)) = absurd (not (none, empty))
@@ -172,9 +175,9 @@ pub line_one : (d : Dialect) (fields : List (List ℕ)) (t u : List ℕ) → IsL
 line_one d fields t u it that =
     let (others, last) = same_from_push that.others it.others that.last it.last
     (sym that.all ∙ it.all) in
-    let P : List (List ℕ) → Type 0 = λ l. Wrote d l that.before in
-    let Q : List (List ℕ) → Type 0 = λ l. IsLast d l that.last that.end in
-    let R : List ℕ → Type 0 = λ l. IsLast d it.others l that.end in
+    let P : List (List ℕ) → Type 0 = λ l. WrittenFields d l that.before in
+    let Q : List (List ℕ) → Type 0 = λ l. IsLastWritten d l that.last that.end in
+    let R : List ℕ → Type 0 = λ l. IsLastWritten d it.others l that.end in
     let before = wrote_one d it.others it.before that.before it.wrote (subst P others that.wrote) in
     let end = last_one d it.others it.last it.end that.end it.is_last
     (subst R last (subst Q others that.is_last)) in

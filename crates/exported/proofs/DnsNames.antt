@@ -2,7 +2,7 @@
 use Rattle.std.specs.Prelude.{◌≡◌, ◌≤◌, ◌<◌, ◌+◌, ℕ, List, [], ◌∷◌, ◌++◌, length}
 use Rattle.std.proofs.Common.{refl, sym, ap, subst, ◌∙◌, arith, length-append}
 use Rattle.format_dns.specs.Names.{Label, octets}
-use Rattle.format_dns.specs.Questions.{IsShort}
+use Rattle.format_dns.specs.Questions.{IsNameWithinLimit}
 use Rattle.exported.proofs.Putting.{fills, puts_more}
 use Rattle.exported.specs.Dns.{ShowsName, WantsName, WritesName, followed, name_of, wire}
 use Rattle.exported.specs.Output.{Puts, most}
@@ -24,7 +24,8 @@ wire_length (label ∷ labels) =
     omega (arith, length-append label.now (wire labels), wire_length labels)
 
 module _ (message : List ℕ) (start : ℕ) (labels one : List Label) {end size : ℕ}
-    {none some : List ℕ} (is : IsShort message followed start labels end) (e : one ≡ labels)
+    {none some : List ℕ} (is : IsNameWithinLimit message followed start labels end)
+    (e : one ≡ labels)
     (it : Puts (wire one) 0 none size some) where
   whole : size ≡ length (wire labels)
   whole = omega (arith, it.is_end, ap (λ l. length (wire l)) e, wire_length labels, is.1)

@@ -2,7 +2,7 @@
 use Rattle.std.specs.Prelude.{◌≡◌, ◌++◌, ℕ, List, [], Option, None, Some, Result, Ok, Err}
 use Rattle.std.specs.Prelude.{IfOk, OnOk}
 use Rattle.std.proofs.Common.{◌∙◌, arith, refl, subst, sym}
-use Rattle.format_resp.specs.Extents.{IsOf, IsRejectedPart, IsWanting, ReplyResult}
+use Rattle.format_resp.specs.Extents.{IsExtentOf, IsIncompleteIfNone, IsRejectedPart, ReplyResult}
 use Rattle.format_resp.specs.declared.extent.Bulk.{Bulk}
 use Rattle.format_resp.specs.declared.extent.Extent.{Extent}
 use Rattle.format_resp.specs.declared.extent.Invalid.{Invalid}
@@ -28,24 +28,27 @@ never_deep protocol (Some bulk) rest reason (malformed, none) is =
 
 module _ (given protocol : Protocol) (old new : Extent) (bytes : List ℕ)
     (answer : Result (Option ℕ) Invalid)
-    (told : IsOf given old bytes → ReplyResult given bytes answer)
-    (kept : OnOk answer (IsOf given old bytes → (more : List ℕ) → IsOf given new (bytes ++ more)))
-    (wants : IsOf given old bytes → IfOk answer (IsWanting given new bytes))
+    (told : IsExtentOf given old bytes → ReplyResult given bytes answer)
+    (kept : OnOk answer
+    (IsExtentOf given old bytes → (more : List ℕ)
+    → IsExtentOf given new (bytes ++ more)))
+    (wants : IsExtentOf given old bytes → IfOk answer (IsIncompleteIfNone given new bytes))
     (same : given ≡ protocol) (before after : RespReplyState) (was : old ≡ extent_of before)
-    (is : extent_of after ≡ new) (here : IsOf protocol (extent_of before) bytes) where
-  it_was : IsOf given old bytes
+    (is : extent_of after ≡ new) (here : IsExtentOf protocol (extent_of before) bytes) where
+  it_was : IsExtentOf given old bytes
   it_was =
-      let P : Extent → Type 0 = λ e. IsOf given e bytes in
-      let Q : Protocol → Type 0 = λ p. IsOf p (extent_of before) bytes in
+      let P : Extent → Type 0 = λ e. IsExtentOf given e bytes in
+      let Q : Protocol → Type 0 = λ p. IsExtentOf p (extent_of before) bytes in
       subst P (sym was) (subst Q (sym same) here)
 
   it_is : (inside : Option ℕ) → answer ≡ Ok inside → (more : List ℕ)
-      → IsOf protocol (extent_of after) (bytes ++ more)
+      → IsExtentOf protocol (extent_of after) (bytes ++ more)
   it_is inside e more =
       let P : Result (Option ℕ) Invalid → Type 0 =
-      λ a. OnOk a (IsOf given old bytes → (rest : List ℕ) → IsOf given new (bytes ++ rest)) in
-      let Q : Extent → Type 0 = λ x. IsOf protocol x (bytes ++ more) in
-      let S : Protocol → Type 0 = λ p. IsOf p new (bytes ++ more) in
+      λ a. OnOk a (IsExtentOf given old bytes → (rest : List ℕ)
+      → IsExtentOf given new (bytes ++ rest)) in
+      let Q : Extent → Type 0 = λ x. IsExtentOf protocol x (bytes ++ more) in
+      let S : Protocol → Type 0 = λ p. IsExtentOf p new (bytes ++ more) in
       subst Q (sym is) (subst S same (subst P e kept it_was more))
 
   it_tells : (other : Result (Option ℕ) Invalid) → answer ≡ other
@@ -56,11 +59,12 @@ module _ (given protocol : Protocol) (old new : Extent) (bytes : List ℕ)
       subst S same (subst P e (told it_was))
 
   it_wants : (inside : Option ℕ) → answer ≡ Ok inside
-      → IsWanting protocol (extent_of after) bytes inside
+      → IsIncompleteIfNone protocol (extent_of after) bytes inside
   it_wants inside e =
-      let P : Result (Option ℕ) Invalid → Type 0 = λ a. IfOk a (IsWanting given new bytes) in
-      let Q : Extent → Type 0 = λ x. IsWanting protocol x bytes inside in
-      let S : Protocol → Type 0 = λ p. IsWanting p new bytes inside in
+      let P : Result (Option ℕ) Invalid → Type 0 =
+      λ a. IfOk a (IsIncompleteIfNone given new bytes) in
+      let Q : Extent → Type 0 = λ x. IsIncompleteIfNone protocol x bytes inside in
+      let S : Protocol → Type 0 = λ p. IsIncompleteIfNone p new bytes inside in
       subst Q (sym is) (subst S same (subst P e (wants it_was)))
 
   pub tells_end : (inside : Option ℕ) (count : ℕ) → answer ≡ Ok inside → inside ≡ Some count
@@ -78,7 +82,8 @@ module _ (given protocol : Protocol) (old new : Extent) (bytes : List ℕ)
       → TellsEnd protocol bytes incomplete 0 after
   tells_wants inside e none =
       let P : Option ℕ → Type 0 = λ o. ReplyResult protocol bytes (Ok o) in
-      let Q : Option ℕ → Type 0 = λ o. IsWanting protocol (extent_of after) bytes o in record {
+      let Q : Option ℕ → Type 0 =
+      λ o. IsIncompleteIfNone protocol (extent_of after) bytes o in record {
         ends = λ other. absurd (omega (arith, other));
         wants = λ _. (subst P none (it_tells (Ok inside) e), subst Q none (it_wants inside e));
         never = λ other. absurd (omega (arith, other));
@@ -139,8 +144,8 @@ module _ (given protocol : Protocol) (old new : Extent) (bytes : List ℕ)
 
 pub calls_in_turn : (protocol : Protocol) (pieces : List (List ℕ)) (state : RespReplyState)
     → CallsInTurn protocol nothing [] pieces state
-    → (more : List ℕ) → IsOf protocol (extent_of state) (all_of pieces ++ more)
+    → (more : List ℕ) → IsExtentOf protocol (extent_of state) (all_of pieces ++ more)
 calls_in_turn protocol pieces state calls more =
-    calls_from_nothing (λ s. IsOf protocol (extent_of s)) (TellsEnd protocol)
+    calls_from_nothing (λ s. IsExtentOf protocol (extent_of s)) (TellsEnd protocol)
     (λ bytes count next told. told.kept (λ e. omega (arith, e)) (λ e. omega (arith, e))) pieces
     nothing state (λ bytes. none_passed protocol _ bytes refl refl refl refl) calls more

@@ -5,8 +5,9 @@ use Rattle.std.proofs.Common.{ap, append_assoc, arith, inl, inr, length-drop, su
 use Rattle.std.proofs.Common.{◌∙◌}
 use Rattle.std.specs.Str.{IsUtf8}
 use Rattle.std.proofs.lemmas.List.{append-nil, drop_all}
-use Rattle.format_ini.proofs.Reading.{reads_more, reads_next, reads_none}
-use Rattle.format_ini.specs.Documents.{BehindMark, IsDocument, IsRefused, ReadsLines, start}
+use Rattle.format_ini.proofs.Reading.{reads_lines_trans, reads_no_lines, reads_one_more_line}
+use Rattle.format_ini.specs.Documents.{AfterByteOrderMark, IsDocument, IsRefused, ReadsLines}
+use Rattle.format_ini.specs.Documents.{initial_state}
 use Rattle.format_ini.specs.Lines.{Said, said_in}
 use Rattle.format_ini.specs.Places.{NextPlaced}
 use Rattle.format_ini.specs.declared.dialect.Dialect.{Dialect}
@@ -43,8 +44,8 @@ tells dialect d old new bytes from after answer code out same begins is next wri
 
 -- `SoFar dialect bytes said from`: the lines of `bytes` before `from` have the content `said`.
 abbrev pub SoFar : ℕ → List ℕ → List Said → Reading → Type 0
-SoFar dialect bytes said from = (lines : List ℕ) × BehindMark bytes lines
-    × ReadsLines (dialect_of dialect) start lines said from.state (drop from.offset bytes)
+SoFar dialect bytes said from = (lines : List ℕ) × AfterByteOrderMark bytes lines
+    × ReadsLines (dialect_of dialect) initial_state lines said from.state (drop from.offset bytes)
 
 -- `IsReadSoFar dialect bytes said state`: `SoFar` holds for each position that `state` represents.
 abbrev pub IsReadSoFar : ℕ → List ℕ → List Said → IniState → Type 0
@@ -54,8 +55,8 @@ IsReadSoFar dialect bytes said state =
 stands_first : (dialect : ℕ) (bytes : List ℕ) → IsReadSoFar dialect bytes [] zeros
 stands_first dialect bytes from (inl (z, (mark, within, is))) =
     let left = drop from.offset bytes in
-    let P : State → Type 0 = λ s. ReadsLines (dialect_of dialect) start left [] s left in
-    (left, mark, subst P (sym is) (reads_none (dialect_of dialect) start left))
+    let P : State → Type 0 = λ s. ReadsLines (dialect_of dialect) initial_state left [] s left in
+    (left, mark, subst P (sym is) (reads_no_lines (dialect_of dialect) initial_state left))
 stands_first dialect bytes from (inr (more, is)) = absurd (omega (arith, more))
 
 passed : (dialect : ℕ) (bytes : List ℕ) (said : List Said) (from mid : Reading)
@@ -66,11 +67,11 @@ passed : (dialect : ℕ) (bytes : List ℕ) (said : List Said) (from mid : Readi
 passed dialect bytes said from mid (lines, mark, reads) passes =
     let d = dialect_of dialect in
     let P : List Said → Type 0 = λ l.
-    ReadsLines d start lines l mid.state (drop mid.offset bytes) in (
+    ReadsLines d initial_state lines l mid.state (drop mid.offset bytes) in (
       lines,
       mark,
       subst P (append-nil said)
-          (reads_more d start from.state mid.state lines (drop from.offset bytes)
+          (reads_lines_trans d initial_state from.state mid.state lines (drop from.offset bytes)
           (drop mid.offset bytes) said [] reads passes),
     )
 
@@ -86,7 +87,8 @@ more_by dialect bytes said from new (Ok (Some it)) out
       (
         lines,
         mark,
-        reads_next (dialect_of dialect) start mid.state new.state lines (drop mid.offset bytes) line
+        reads_one_more_line (dialect_of dialect) initial_state mid.state new.state lines
+            (drop mid.offset bytes) line
             (drop new.offset bytes) said (said_in it.entry ∷ []) reads first step,
       ),
     )
@@ -133,7 +135,8 @@ pub over_by : (dialect : ℕ) (bytes : List ℕ) (said : List Said) (from new : 
     → SoFar dialect bytes said from → IsDocument (dialect_of dialect) bytes said
 over_by dialect bytes said from new (Ok None) out ((least, passes), over) writes here =
     let (lines, mark, reads) = passed dialect bytes said from new here passes in
-    let P : List ℕ → Type 0 = λ l. ReadsLines (dialect_of dialect) start lines said new.state l in
+    let P : List ℕ → Type 0 =
+    λ l. ReadsLines (dialect_of dialect) initial_state lines said new.state l in
     (lines, new.state, mark, subst P (drop_all new.offset bytes over) reads)
 over_by dialect bytes said from new (Ok (Some it)) out next (code, none) here =
     absurd (omega (arith, code))

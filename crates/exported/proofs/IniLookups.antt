@@ -5,7 +5,7 @@ use Rattle.std.proofs.Common.{ap, subst, sym}
 use Rattle.std.specs.Str.{IsUtf8}
 use Rattle.format_ini.specs.Documents.{IsDocument, IsRefused, ReadsLines}
 use Rattle.format_ini.specs.Lines.{Said}
-use Rattle.format_ini.specs.Lookup.{HasNo, IsLookup}
+use Rattle.format_ini.specs.Lookup.{HasNoPair, IsLookup}
 use Rattle.format_ini.specs.declared.dialect.Dialect.{Dialect}
 use Rattle.format_ini.specs.declared.lines.Reason.{Reason}
 use Rattle.format_ini.specs.declared.lines.State.{State}
@@ -42,7 +42,7 @@ module _ (dialect : ℕ) (bytes name key : List ℕ) (state : IniState) (out : I
       (lines, it.begins.0, subst P it.begins.2 it.passes.1)
 
   pub missing : TellsLookup dialect bytes name key state end out
-      → (said : List Said) × IsDocument (dialect_of dialect) bytes said × HasNo name key [] said
+      → (said : List Said) × IsDocument (dialect_of dialect) bytes said × HasNoPair name key [] said
   missing tells =
       let it = tells.found in (
         it.said,

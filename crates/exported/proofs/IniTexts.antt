@@ -9,8 +9,8 @@ use Rattle.std.proofs.lemmas.List.{drop-drop}
 use Rattle.std.proofs.lemmas.Str.{IsCharBoundary-after_ascii, IsCharBoundary-before_ascii}
 use Rattle.std.proofs.lemmas.Str.{IsCharBoundary-from_take, IsUtf8-drop, IsUtf8-nil}
 use Rattle.std.proofs.lemmas.Str.{IsUtf8-take}
-use Rattle.format_ini.proofs.Passing.{drop_none}
-use Rattle.format_ini.specs.Documents.{AreLines, BehindMark}
+use Rattle.format_ini.proofs.Passing.{drop_zero}
+use Rattle.format_ini.specs.Documents.{AfterByteOrderMark, AreLines}
 use Rattle.format_ini.specs.Front.{FirstLine}
 
 at_seam : (line rest : List ℕ) → get_or (line ++ (10 ∷ rest)) (length line) 0 ≡ 10
@@ -31,7 +31,7 @@ line_text text line rest (none, inl e) is =
     let ascii : get_or all n 0 < 128 = omega (arith, at_seam line rest) in
     let left : drop (n + 1) all ≡ rest =
     sym (drop-drop 1 n all) ∙ ap (λ l. drop 1 l) (drop-append_seam line (10 ∷ rest))
-    ∙ drop_none rest in (
+    ∙ drop_zero rest in (
       subst (λ l. IsUtf8 l) (take-append_seam line (10 ∷ rest))
           (IsUtf8-take all n known (IsCharBoundary-before_ascii all n within ascii)),
       subst (λ l. IsUtf8 l) left
@@ -52,13 +52,14 @@ mark_is_text : IsUtf8 (239 ∷ 187 ∷ 191 ∷ [])
 unfolding encode
 mark_is_text = (65279 ∷ [], (refl, refl))
 
-pub mark_text : (bytes lines : List ℕ) → BehindMark bytes lines → IsUtf8 bytes → IsUtf8 lines
+pub mark_text : (bytes lines : List ℕ) → AfterByteOrderMark bytes lines → IsUtf8 bytes
+    → IsUtf8 lines
 mark_text bytes lines (inl e) is =
     let all = 239 ∷ 187 ∷ 191 ∷ lines in
     let known : IsUtf8 all = subst (λ l. IsUtf8 l) e is in
     let mark : IsUtf8 (take 3 all) = subst (λ l. IsUtf8 l)
     (sym (ap (λ l. 239 ∷ 187 ∷ 191 ∷ l) (take_none lines)))
     mark_is_text in
-    subst (λ l. IsUtf8 l) (drop_none lines)
+    subst (λ l. IsUtf8 l) (drop_zero lines)
     (IsUtf8-drop all 3 known (IsCharBoundary-from_take all 3 known (omega arith) mark))
 mark_text bytes lines (inr (e, none)) is = subst (λ l. IsUtf8 l) (sym e) is

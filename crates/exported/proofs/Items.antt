@@ -2,12 +2,12 @@
 use Rattle.std.proofs.Common.{◌≡◌, ◌∙◌, ◌+◌, ◌-◌, ◌≤◌, ◌++◌, ℕ, List, ap, arith, length}
 use Rattle.std.proofs.Common.{length-append}
 use Rattle.format_json_extents.specs.Steps.{IsNextStep}
-use Rattle.format_json_extents.specs.Walk.{IsNext}
+use Rattle.format_json_extents.specs.Walk.{IsNextValue}
 use Rattle.format_json_extents.specs.declared.steps.Step.{Step}
 use Rattle.exported.specs.Span.{StandsAt}
 use Rattle.exported.specs.declared.span.Span.{Span}
 
-next_lengths : (level : ℕ) (text bytes rest : List ℕ) → (it : IsNext level text bytes rest)
+next_lengths : (level : ℕ) (text bytes rest : List ℕ) → (it : IsNextValue level text bytes rest)
     → length bytes ≡ length it.lead + (length text + length rest)
 next_lengths level text bytes rest it =
     omega (
@@ -18,12 +18,12 @@ next_lengths level text bytes rest it =
       length-append text rest,
     )
 
-pub next_within : (level : ℕ) (text bytes rest : List ℕ) → IsNext level text bytes rest
+pub next_within : (level : ℕ) (text bytes rest : List ℕ) → IsNextValue level text bytes rest
     → length rest + length text ≤ length bytes
 next_within level text bytes rest it = omega (arith, next_lengths level text bytes rest it)
 
 pub next_stands : (level : ℕ) (text bytes rest : List ℕ) (place : Span)
-    → IsNext level text bytes rest → place.offset ≡ length bytes - length rest - length text
+    → IsNextValue level text bytes rest → place.offset ≡ length bytes - length rest - length text
     → place.length ≡ length text → StandsAt bytes place text rest
 next_stands level text bytes rest place it begins ends = record {
   before = it.lead;

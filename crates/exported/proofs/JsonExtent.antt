@@ -2,7 +2,7 @@
 use Rattle.std.specs.Prelude.{◌≡◌, ◌⊎◌, ◌++◌, ℕ, List, [], length}
 use Rattle.std.specs.Prelude.{Option, None, Some, Result, Ok, Err}
 use Rattle.std.proofs.Common.{arith, refl, subst, sym}
-use Rattle.format_json_pieces.specs.Extents.{IsOf}
+use Rattle.format_json_pieces.specs.Extents.{IsExtentOf}
 use Rattle.format_json_pieces.specs.declared.extent.Invalid.{Invalid}
 use Rattle.format_json_pieces.specs.declared.extent.Reason.{Reason}
 use Rattle.format_json_pieces.specs.declared.extent.Reason.TheVariants as reasons
@@ -71,20 +71,22 @@ module _ (holds : Result (Option ℕ) Invalid → Type 0) (none code out : ℕ)
 
 -- a state of the bytes before and after a call
 pub of_state : (e : ValueExtent) (s : JsonValueState) (opened bytes : List ℕ)
-    → e ≡ value_extent_of s → IsOf (value_extent_of s) opened bytes → IsOf e opened bytes
+    → e ≡ value_extent_of s → IsExtentOf (value_extent_of s) opened bytes
+    → IsExtentOf e opened bytes
 of_state e s opened bytes is it =
-    let P : ValueExtent → Type 0 = λ x. IsOf x opened bytes in subst P (sym is) it
+    let P : ValueExtent → Type 0 = λ x. IsExtentOf x opened bytes in subst P (sym is) it
 
 pub to_state : (e : ValueExtent) (s : JsonValueState) (opened bytes : List ℕ)
-    → value_extent_of s ≡ e → IsOf e opened bytes → IsOf (value_extent_of s) opened bytes
+    → value_extent_of s ≡ e → IsExtentOf e opened bytes
+    → IsExtentOf (value_extent_of s) opened bytes
 to_state e s opened bytes is it =
-    let P : ValueExtent → Type 0 = λ x. IsOf x opened bytes in subst P (sym is) it
+    let P : ValueExtent → Type 0 = λ x. IsExtentOf x opened bytes in subst P (sym is) it
 
 -- ---- calls in turn
 
 pub value_calls : (opened last : List ℕ) (pieces : List (List ℕ)) (state : JsonValueState)
     → ValueCalls (length opened) (nothing, opened) [] pieces (state, last) → (more : List ℕ)
-    → IsOf (value_extent_of state) last (all_of pieces ++ more)
+    → IsExtentOf (value_extent_of state) last (all_of pieces ++ more)
 value_calls opened last pieces state calls more =
     calls_from_nothing IsOfBoth (TellsValue (length opened)) (λ bytes out next told. told.kept)
     pieces (nothing, opened) (state, last) (λ bytes. of_new _ opened bytes (refl, refl, refl)) calls

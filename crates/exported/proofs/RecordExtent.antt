@@ -4,7 +4,7 @@ use Rattle.std.specs.Prelude.{Result, Ok, Err, drop, length}
 use Rattle.std.proofs.Common.{ap, arith, inl, inr, length-append, refl, subst, sym}
 use Rattle.std.proofs.lemmas.Bool.{cases_lt}
 use Rattle.std.proofs.lemmas.List.{length-drop}
-use Rattle.format_csv_records.specs.Extents.{IsFew, IsLed, IsOf, RecordResult}
+use Rattle.format_csv_records.specs.Extents.{IsExtentOf, IsLed, IsWithinPassed, RecordResult}
 use Rattle.format_csv_records.specs.Refused.{IsRefused}
 use Rattle.format_csv_records.specs.declared.buffers.RecordSize.{RecordSize}
 use Rattle.format_csv_records.specs.declared.dialect.Dialect.{Dialect}
@@ -21,14 +21,14 @@ use Rattle.exported.proofs.Turns.{calls_from_nothing}
 
 module _ (d : Dialect) (old new : RecordExtent) (bytes : List ℕ)
     (answer : Result (Option RecordSize) InvalidRecord) (before after : CsvRecordState) (code : ℕ)
-    (out : Record) (told : IsOf d old bytes → RecordResult d bytes answer)
-    (kept : IsOf d old bytes → (more : List ℕ) → IsOf d new (bytes ++ more))
+    (out : Record) (told : IsExtentOf d old bytes → RecordResult d bytes answer)
+    (kept : IsExtentOf d old bytes → (more : List ℕ) → IsExtentOf d new (bytes ++ more))
     (was : old ≡ record_extent_of before) (is : record_extent_of after ≡ new)
     (ends : code ≡ done → (size : RecordSize) × (answer ≡ Ok (Some size)) × HasCounts out size)
     (wants : code ≡ incomplete → answer ≡ Ok None)
     (never : code ≡ invalid
     → (fault : InvalidRecord) × (answer ≡ Err fault) × (out.error_offset ≡ fault.offset)) where
-  tells_of : IsOf d old bytes → TellsRecord d bytes code out after
+  tells_of : IsExtentOf d old bytes → TellsRecord d bytes code out after
   tells_of it =
       let Q : Result (Option RecordSize) InvalidRecord → Type 0 = λ a. RecordResult d bytes a in
       record {
@@ -43,13 +43,14 @@ module _ (d : Dialect) (old new : RecordExtent) (bytes : List ℕ)
             let P : ℕ → Type 0 = λ n. IsRefused d bytes (record { offset = n; why = fault.why }) in
             (none, inr (fault.why, subst P (sym place) first));
         kept = λ more.
-            let R : RecordExtent → Type 0 = λ x. IsOf d x (bytes ++ more) in
+            let R : RecordExtent → Type 0 = λ x. IsExtentOf d x (bytes ++ more) in
             subst R (sym is) (kept it more);
       }
 
-  pub tells_record : IsOf d (record_extent_of before) bytes → TellsRecord d bytes code out after
+  pub tells_record : IsExtentOf d (record_extent_of before) bytes
+      → TellsRecord d bytes code out after
   tells_record here =
-      let R : RecordExtent → Type 0 = λ e. IsOf d e bytes in
+      let R : RecordExtent → Type 0 = λ e. IsExtentOf d e bytes in
       tells_of (subst R (sym was) here)
 
 -- ---- any state
@@ -86,10 +87,10 @@ module _ (d : Dialect) (old new : RecordExtent) (bytes : List ℕ) where
       omega (arith, says.1, passed_within (Err fault) room led)
 
   module _ (answer : Result (Option RecordSize) InvalidRecord)
-      (fresh : old.passed ≤ length bytes → IsFew old
+      (fresh : old.passed ≤ length bytes → IsWithinPassed old
       → IsLed d old (drop old.passed bytes) new answer)
       (short : length bytes < old.passed → (answer ≡ Ok None) × (new ≡ old))
-      (many : (IsFew old → ⊥) → (answer ≡ Ok None) × (new ≡ old)) where
+      (many : (IsWithinPassed old → ⊥) → (answer ≡ Ok None) × (new ≡ old)) where
     none_within : answer ≡ Ok None → StopsWithin (length bytes) answer
     none_within is =
         let P : Result (Option RecordSize) InvalidRecord → Type 0 =
@@ -121,8 +122,8 @@ module _ (d : Dialect) (old new : RecordExtent) (bytes : List ℕ) where
 
 pub record_calls : (d : Dialect) (pieces : List (List ℕ)) (state : CsvRecordState)
     → RecordCalls d nothing [] pieces state
-    → (more : List ℕ) → IsOf d (record_extent_of state) (all_of pieces ++ more)
+    → (more : List ℕ) → IsExtentOf d (record_extent_of state) (all_of pieces ++ more)
 record_calls d pieces state calls more =
-    calls_from_nothing (λ s. IsOf d (record_extent_of s)) (TellsRecord d)
+    calls_from_nothing (λ s. IsExtentOf d (record_extent_of s)) (TellsRecord d)
     (λ bytes out next told. told.kept) pieces nothing state
     (λ bytes. of_none d _ bytes refl refl refl refl) calls more

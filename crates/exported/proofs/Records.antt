@@ -4,8 +4,8 @@ use Rattle.std.proofs.Common.{inl, inr, length, subst, sym, true}
 use Rattle.std.specs.Prelude.{Bool, MatchBool}
 use Rattle.std.proofs.Props.{props}
 use Rattle.std.proofs.lemmas.List.{append-nil, length-drop}
-use Rattle.format_csv_records.specs.Apart.{IsApart, WhyNone}
-use Rattle.format_csv_records.specs.Buffers.{IsForGood, IsSized, NoneForGood, ShowsFields}
+use Rattle.format_csv_records.specs.Apart.{DialectReason, IsApart}
+use Rattle.format_csv_records.specs.Buffers.{IsRecordForGood, IsSized, NoRecordForGood, ShowsFields}
 use Rattle.format_csv_records.specs.Buffers.{SizedAs}
 use Rattle.std.proofs.lemmas.List.Elements.{All-nil}
 use Rattle.format_csv_records.specs.Dialects.{IsRecord}
@@ -21,7 +21,7 @@ use Rattle.format_csv_records.specs.declared.dialect.LineEnds.{LineEnds}
 use Rattle.format_csv_records.specs.declared.read.InvalidRecord.{InvalidRecord}
 use Rattle.format_csv_records.proofs.Early.{none_goes_on, open_goes_on}
 use Rattle.format_csv_records.proofs.Early.{record_goes_on}
-use Rattle.format_csv_records.proofs.One.{refused_none}
+use Rattle.format_csv_records.proofs.One.{refused_is_no_record}
 use Rattle.exported.specs.Csv.{CountsRecord, IsDialect, ShowsRecord, WantsRecord}
 use Rattle.exported.specs.Span.{span_of}
 use Rattle.exported.specs.declared.csv.Record.{Record}
@@ -55,10 +55,10 @@ open_still A B false it is = it
 
 pub wanted : (d : Dialect) (input : List ℕ) (size : RecordSize) (found : Record)
     → HasCounts found size → size.ended ≡ true → IsSized d input size
-    → WantsRecord (IsForGood d) input found
+    → WantsRecord (IsRecordForGood d) input found
 wanted d input size found tells is (fields, it) = (
   fields,
-  counts (IsForGood d) d input fields size found it tells
+  counts (IsRecordForGood d) d input fields size found it tells
       (ended _ _ size.ended it.ended is),
 )
 
@@ -66,23 +66,23 @@ module _ (d : Dialect) (input : List ℕ) where
   module _ (size : RecordSize) (found : Record) (tells : HasCounts found size) where
     pub shown_for_good : size.ended ≡ true → (text : List ℕ) (places : List Span)
         → ShowsFields span_of d input size text places
-        → ShowsRecord (IsForGood d) input found text places
+        → ShowsRecord (IsRecordForGood d) input found text places
     shown_for_good is text places (fields, it, bytes, at) = (
       fields,
-      counts (IsForGood d) d input fields size found it tells
+      counts (IsRecordForGood d) d input fields size found it tells
           (ended _ _ size.ended it.ended is),
       bytes,
       at,
     )
 
   none_yet : ((fields : List (List ℕ)) (rest : List ℕ) → IsRecord d input fields rest → ⊥)
-      → NoneForGood d input
+      → NoRecordForGood d input
   none_yet none = λ fields rest all.
       let R : List ℕ → Type 0 = λ l. IsRecord d l fields (rest ++ []) in
       none fields (rest ++ []) (subst R (append-nil input) (all []))
 
   pub some_may : (size : RecordSize) → IsSized d input size → size.ended ≡ false
-      → NoneForGood d input × IsViablePrefix d input
+      → NoRecordForGood d input × IsViablePrefix d input
   some_may size (fields, it) is =
       let R : List ℕ → Type 0 = λ l. IsRecord d l fields (drop size.length input) in (
         open_still _ _ size.ended it.ended is,
@@ -90,7 +90,7 @@ module _ (d : Dialect) (input : List ℕ) where
             (All-nil (λ b. b < 256)) (subst R (sym (append-nil input)) it.is_record),
       )
 
-  pub nothing_may : input ≡ [] → NoneForGood d input × IsViablePrefix d input
+  pub nothing_may : input ≡ [] → NoRecordForGood d input × IsViablePrefix d input
   nothing_may none =
       let P : List ℕ → Type 0 = λ l. IsViablePrefix d l in (
         none_yet (λ fields rest is. omega (arith, is.0, ap (λ l. length l) none)),
@@ -98,9 +98,9 @@ module _ (d : Dialect) (input : List ℕ) where
       )
 
   pub refused_may : d.quote < 256 → (fault : InvalidRecord) → IsRefused d input fault
-      → length input ≤ fault.offset → NoneForGood d input × IsViablePrefix d input
+      → length input ≤ fault.offset → NoRecordForGood d input × IsViablePrefix d input
   refused_may byte fault it far = (
-    none_yet (λ fields rest is. refused_none d input fault fields rest it is),
+    none_yet (λ fields rest is. refused_is_no_record d input fault fields rest it is),
     open_goes_on d byte input fault it far,
   )
 
@@ -126,7 +126,7 @@ only given d other is it =
     subst Q (is.1 ∙ sym it.1) quoted other.apart
 
 pub no_dialect : (given : CsvDialect) (d : Dialect) → IsDialect given d → (why : DialectError)
-    → WhyNone given.delimiter given.quote why → ⊥
+    → DialectReason given.delimiter given.quote why → ⊥
 no_dialect given d is DelimiterIsQuote same = d.apart.others (is.1 ∙ same ∙ sym is.2)
 no_dialect given d is DelimiterEndsLines (_, inl e) = d.apart.delimiter_stays.0 (is.1 ∙ e)
 no_dialect given d is DelimiterEndsLines (_, inr e) = d.apart.delimiter_stays.1 (is.1 ∙ e)

@@ -11,7 +11,7 @@ use Rattle.format_resp.proofs.PartsStand.{stands_as}
 use Rattle.format_resp.specs.Bounded.{BoundedResult}
 use Rattle.format_resp.specs.Extents.{IsReplyWithin, MatchesAtStart}
 use Rattle.format_resp.specs.Parts.{HasElements, IsBehindFeed, IsLine, NoFeed, StandsBy}
-use Rattle.format_resp.specs.Resp.{Opened, line_end}
+use Rattle.format_resp.specs.Resp.{UnrolledReply, line_end}
 use Rattle.format_resp.specs.declared.extent.Invalid.{Invalid}
 use Rattle.format_resp.specs.declared.extent.Reason.{Reason}
 use Rattle.format_resp.specs.declared.extent.Reason.TheVariants.{Malformed, TooDeep, TooLarge}
@@ -26,7 +26,7 @@ use Rattle.exported.specs.declared.resp.Reply.{Reply}
 use Rattle.exported.specs.declared.span.Span.{Span}
 
 -- a reply that is equal to a constructed one has its kind
-pub opened : (kind : Opened Global) {reply form : Found} → reply ≡ form
+pub opened : (kind : UnrolledReply Global) {reply form : Found} → reply ≡ form
     → roll-Reply (Bor (List ℕ)) Global kind ≡ form → out-Reply (Bor (List ℕ)) Global reply ≡ kind
 opened kind is rolls =
     ap (out-Reply (Bor (List ℕ)) Global) (is ∙ sym rolls)
@@ -76,12 +76,12 @@ elements_count bytes rest left n e is =
 
 module _ (protocol : Protocol) (level : ℕ) (input : List ℕ) where
   -- the description of a reply of a kind
-  pub shown_by : (kind : Opened Global) (reply : Found) (rest : List ℕ) (it : Reply)
+  pub shown_by : (kind : UnrolledReply Global) (reply : Found) (rest : List ℕ) (it : Reply)
       → out-Reply (Bor (List ℕ)) Global reply ≡ kind
       → (StandsBy protocol level input kind rest → IsShownBy protocol level input rest kind it)
       → IsReply protocol level input reply rest → IsShown protocol level input rest reply it
   shown_by kind reply rest it e shows is =
-      let P : Opened Global → Type 0 = λ k. IsShownBy protocol level input rest k it in
+      let P : UnrolledReply Global → Type 0 = λ k. IsShownBy protocol level input rest k it in
       subst P (sym e) (shows (stands_as protocol level input rest reply kind is e))
 
   -- that of elements

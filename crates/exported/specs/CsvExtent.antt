@@ -1,8 +1,8 @@
 -- The search for the end of a record in partial input.
 use Rattle.std.specs.Prelude.{◌≡◌, ◌++◌, ℕ, List, [], ◌∷◌, get_or}
-use Rattle.format_csv_records.specs.Buffers.{IsForGood, NoneForGood}
+use Rattle.format_csv_records.specs.Buffers.{IsRecordForGood, NoRecordForGood}
 use Rattle.format_csv_records.specs.Early.{IsPrefixOfNone, IsViablePrefix}
-use Rattle.format_csv_records.specs.Extents.{IsOf}
+use Rattle.format_csv_records.specs.Extents.{IsExtentOf}
 use Rattle.format_csv_records.specs.declared.dialect.Dialect.{Dialect}
 use Rattle.format_csv_records.specs.declared.extent.RecordExtent.{RecordExtent}
 use Rattle.format_csv_records.specs.declared.extent.RecordPlace.{RecordPlace}
@@ -38,13 +38,13 @@ nothing = record { passed = 0; text = 0; fields = 0; place = 0 }
 -- for any continuation.
 pub record TellsRecord (d : Dialect) (bytes : List ℕ) (code : ℕ) (out : Record)
     (state : CsvRecordState) : Type 0 where
-  pub ends : code ≡ done → WantsRecord (IsForGood d) bytes out
-  pub wants : code ≡ incomplete → NoneForGood d bytes × IsViablePrefix d bytes
+  pub ends : code ≡ done → WantsRecord (IsRecordForGood d) bytes out
+  pub wants : code ≡ incomplete → NoRecordForGood d bytes × IsViablePrefix d bytes
   pub never : code ≡ invalid → IsPrefixOfNone d bytes × IsRefusedAt d bytes out.error_offset
-  pub kept : (more : List ℕ) → IsOf d (record_extent_of state) (bytes ++ more)
+  pub kept : (more : List ℕ) → IsExtentOf d (record_extent_of state) (bytes ++ more)
 
 -- Successive calls that all return `incomplete`.
 abbrev pub RecordCalls : Dialect → CsvRecordState → List ℕ → List (List ℕ) → CsvRecordState
     → Type 0
 RecordCalls d state bytes pieces last =
-    CallsFrom (λ s. IsOf d (record_extent_of s)) (TellsRecord d) state bytes pieces last
+    CallsFrom (λ s. IsExtentOf d (record_extent_of s)) (TellsRecord d) state bytes pieces last

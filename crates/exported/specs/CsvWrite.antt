@@ -1,6 +1,6 @@
 -- Records of comma-separated values that are written.
 use Rattle.std.specs.Prelude.{◌≡◌, ℕ, List, [], ◌∷◌, ◌++◌}
-use Rattle.format_csv_records.specs.Written.{IsLast, ReadsBack, Wrote, bytes_of}
+use Rattle.format_csv_records.specs.Written.{IsLastWritten, ReadsBack, WrittenFields, bytes_of}
 use Rattle.format_csv_records.specs.declared.dialect.Dialect.{Dialect}
 use Rattle.format_csv_records.specs.declared.dialect.LineEnds.{LineEnds}
 use Rattle.format_csv_records.specs.declared.dialect.LineEnds.TheVariants.{CrLf, Either, Lf}
@@ -25,8 +25,8 @@ pub record IsLine (d : Dialect) (fields : List (List ℕ)) (text : List ℕ) : T
   pub before : List ℕ
   pub end : List ℕ
   pub all : fields ≡ others ++ last ∷ []
-  pub wrote : Wrote d others before
-  pub is_last : IsLast d others last end
+  pub wrote : WrittenFields d others before
+  pub is_last : IsLastWritten d others last end
   pub is_text : text ≡ before ++ (end ++ line_end d.ends)
 
 -- `ShowsLine d fields old new size`: the record is written at the start of a buffer, and reads back

@@ -2,7 +2,7 @@
 use Rattle.std.specs.Prelude.{◌≡◌, ◌≤◌, ◌<◌, ◌+◌, ℕ, List, [], ◌∷◌, ◌++◌, false, length}
 use Rattle.std.specs.declared.alloc.Global.{Global}
 use Rattle.format_dns.specs.Names.{HasNoName, Label}
-use Rattle.format_dns.specs.Questions.{HasNoQuestion, IsQuestion, IsShort}
+use Rattle.format_dns.specs.Questions.{HasNoQuestion, IsNameWithinLimit, IsQuestion}
 use Rattle.format_dns.specs.Records.{HasNoRecord, IsRecord}
 use Rattle.format_dns.specs.declared.fault.PartError.{PartError}
 use Rattle.format_dns.specs.declared.fault.PartError.TheVariants.{Ends, NoMemory, NotPrior}
@@ -148,7 +148,7 @@ module _ (message : List ℕ) (start : ℕ) where
   pub record ShowsName (text : List ℕ) (it : DnsName) : Type 0 where
     pub labels : List Label
     pub end : ℕ
-    pub is_name : IsShort message followed start labels end
+    pub is_name : IsNameWithinLimit message followed start labels end
     pub is_text : text ≡ wire labels
     pub short : length text ≤ 255
     pub shows : it ≡ name_of (length text) end
@@ -166,7 +166,7 @@ module _ (message : List ℕ) (start : ℕ) where
   abbrev pub RefusesName : DnsName → Type 0
   RefusesName it =
       (why : PartError) × HasNoName message followed 254 start why
-      × ((labels : List Label) (end : ℕ) → IsShort message followed start labels end → ⊥)
+      × ((labels : List Label) (end : ℕ) → IsNameWithinLimit message followed start labels end → ⊥)
       × (it ≡ refused_name (fault_of why))
 
   -- At offset `start` there is a question, which `it` describes.

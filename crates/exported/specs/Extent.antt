@@ -1,7 +1,7 @@
 -- The search for the end of a reply in partial input, over successive calls.
 use Rattle.std.specs.Prelude.{◌≡◌, ◌+◌, ◌*◌, ◌++◌, true, false, ℕ, zero, suc, List}
 use Rattle.std.specs.Prelude.{None, Ok, Err, Some}
-use Rattle.format_resp.specs.Extents.{IsOf, IsWanting, ReplyResult}
+use Rattle.format_resp.specs.Extents.{IsExtentOf, IsIncompleteIfNone, ReplyResult}
 use Rattle.format_resp.specs.declared.extent.Extent.{Extent}
 use Rattle.format_resp.specs.declared.extent.Reason.TheVariants.{Malformed, TooLarge}
 use Rattle.format_resp.specs.declared.reply.Protocol.{Protocol}
@@ -49,16 +49,17 @@ pub record TellsEnd (protocol : Protocol) (bytes : List ℕ) (code count : ℕ)
     (state : RespReplyState) : Type 0 where
   pub ends : code ≡ done → ReplyResult protocol bytes (Ok (Some count))
   pub wants : code ≡ incomplete
-      → ReplyResult protocol bytes (Ok None) × IsWanting protocol (extent_of state) bytes None
+      → ReplyResult protocol bytes (Ok None)
+      × IsIncompleteIfNone protocol (extent_of state) bytes None
   pub never : code ≡ invalid
       → ReplyResult protocol bytes (Err (record { reason = Malformed; offset = count }))
   pub large : code ≡ out_of_range
       → ReplyResult protocol bytes (Err (record { reason = TooLarge; offset = count }))
   pub kept : (code ≡ invalid → ⊥) → (code ≡ out_of_range → ⊥) → (more : List ℕ)
-      → IsOf protocol (extent_of state) (bytes ++ more)
+      → IsExtentOf protocol (extent_of state) (bytes ++ more)
 
 -- Successive calls that all return `incomplete`.
 abbrev pub CallsInTurn : Protocol → RespReplyState → List ℕ → List (List ℕ) → RespReplyState
     → Type 0
 CallsInTurn protocol state bytes pieces last =
-    CallsFrom (λ s. IsOf protocol (extent_of s)) (TellsEnd protocol) state bytes pieces last
+    CallsFrom (λ s. IsExtentOf protocol (extent_of s)) (TellsEnd protocol) state bytes pieces last

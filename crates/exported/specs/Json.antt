@@ -1,6 +1,6 @@
 -- JSON values that successive calls return.
 use Rattle.std.specs.Prelude.{◌≡◌, ℕ, List}
-use Rattle.format_json_extents.specs.Walk.{IsNext, IsOfKind}
+use Rattle.format_json_extents.specs.Walk.{IsNextValue, IsOfKind}
 use Rattle.format_json_extents.specs.declared.walk.Kind.{Kind}
 use Rattle.format_json_extents.specs.declared.walk.Kind.TheVariants as kinds
 use Rattle.exported.specs.Span.{StandsAt, nowhere}
@@ -26,7 +26,7 @@ pub record ShowsItem (level : ℕ) (input : List ℕ) (it : JsonItem) : Type 0 w
   pub text : List ℕ
   pub rest : List ℕ
   pub kind : Kind
-  pub is_next : IsNext level text input rest
+  pub is_next : IsNextValue level text input rest
   pub is_kind : IsOfKind level kind text
   pub is_number : it.kind ≡ number_of kind
   pub place : StandsAt input it.span text rest

@@ -1,7 +1,7 @@
 -- The search for the end of a JSON value in partial input.
 use Rattle.std.specs.Prelude.{◌≡◌, ◌++◌, ℕ, List, [], ◌∷◌, get_or, length}
 use Rattle.std.specs.Prelude.{Option, None, Some, Result, Ok, Err}
-use Rattle.format_json_pieces.specs.Extents.{ExtentResult, IsOf}
+use Rattle.format_json_pieces.specs.Extents.{ExtentResult, IsExtentOf}
 use Rattle.format_json_pieces.specs.declared.begun.Mode.{Mode}
 use Rattle.format_json_pieces.specs.declared.begun.Mode.TheVariants as modes
 use Rattle.format_json_pieces.specs.declared.extent.Invalid.{Invalid}
@@ -23,7 +23,8 @@ use Rattle.exported.specs.declared.json.extent.JsonValueState.{JsonValueState}
 -- the parts in the order of their numbers, without the last
 abbrev pub part_at : ℕ → Part
 part_at n = get_or
-    (parts.Plain ∷ parts.Escape ∷ parts.Unit ∷ parts.BehindD ∷ parts.Three ∷ parts.Two ∷ parts.One
+    (parts.Plain ∷ parts.Escape ∷ parts.Unit ∷ parts.AfterSurrogateD ∷ parts.Three ∷ parts.Two ∷
+    parts.One
     ∷ parts.HighTwo ∷ parts.HighOne ∷ parts.Backslash ∷ parts.LetterU ∷ parts.LowD
     ∷ parts.LowSecond ∷ parts.TailOne ∷ parts.TailTwo ∷ parts.TailThree ∷ parts.TailLong
     ∷ parts.TailScalar ∷ parts.TailLonger ∷ []) n parts.TailLast
@@ -82,7 +83,7 @@ pub record TellsBy (holds : Result (Option ℕ) Invalid → Type 0) (none code o
 
 -- a state and the open brackets
 abbrev pub IsOfBoth : JsonValueState × List ℕ → List ℕ → Type 0
-IsOfBoth (state, opened) bytes = IsOf (value_extent_of state) opened bytes
+IsOfBoth (state, opened) bytes = IsExtentOf (value_extent_of state) opened bytes
 
 -- The result of a call on `bytes`, and a state of `bytes`, for any continuation.
 pub record TellsValue (level : ℕ) (bytes : List ℕ) (code out : ℕ)

@@ -5,7 +5,7 @@ use Rattle.std.specs.Borrow.{Bor}
 use Rattle.std.specs.declared.alloc.Global.{Global}
 use Rattle.format_resp.specs.Bounded.{IsRejectedWithin, IsWantingWithin}
 use Rattle.format_resp.specs.Parts.{IsBehindFeed}
-use Rattle.format_resp.specs.Resp.{Opened, Replies, ReplyText, line_end}
+use Rattle.format_resp.specs.Resp.{Replies, ReplyText, UnrolledReply, line_end}
 use Rattle.format_resp.specs.declared.extent.Reason.{Reason}
 use Rattle.format_resp.specs.declared.extent.Reason.TheVariants.{Malformed, TooDeep, TooLarge}
 use Rattle.format_resp.specs.declared.nodes.NodesSize.{NodesSize}
@@ -99,7 +99,7 @@ number_of false = pos 0
 
 -- `IsShownBy protocol level input rest opened it`: `it` describes a reply of `input` that is
 -- followed by `rest`, by the kind of the reply.
-abbrev pub IsShownBy : Protocol → ℕ → List ℕ → List ℕ → Opened Global → Reply → Type 0
+abbrev pub IsShownBy : Protocol → ℕ → List ℕ → List ℕ → UnrolledReply Global → Reply → Type 0
 IsShownBy p level input rest (Reply-F.Simple text) it = HasText 0 input rest text.now it
 IsShownBy p level input rest (Reply-F.Error text) it = HasText 1 input rest text.now it
 IsShownBy p level input rest (Reply-F.Integer number) it = HasNumber 2 number it

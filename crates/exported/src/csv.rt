@@ -1,7 +1,7 @@
 //! Records of comma separated values.
 
 ghost use Rattle.std.specs.Prelude.{◌≡◌, ◌≤◌, ◌<◌, ◌⊎◌, ◌↔◌, drop, length, take};
-ghost use Rattle.format_csv_records.specs.Buffers.{IsForGood, IsSized, NoneForGood};
+ghost use Rattle.format_csv_records.specs.Buffers.{IsRecordForGood, IsSized, NoRecordForGood};
 ghost use Rattle.format_csv_records.specs.Buffers.{ShowsFields};
 ghost use Rattle.format_csv_records.specs.Dialects.{IsRecord};
 ghost use Rattle.format_csv_records.specs.Early.{IsPrefixOfNone, IsViablePrefix};
@@ -204,13 +204,14 @@ fn read_partial(
     out: &mut Record,
 ) -> u32
     requires { dialect.quote < 256 }
-    ensures record { result ≡ done → ShowsRecord (IsForGood dialect) bytes.now out.new
+    ensures record { result ≡ done → ShowsRecord (IsRecordForGood dialect) bytes.now out.new
         (take out.new.text text.new) (take out.new.fields fields.new) }
     ensures fits { result ≡ done → (out.new.fields ≤ length fields.old)
         × (out.new.text ≤ length text.old) }
     ensures behind { result ≡ done → (drop out.new.text text.new ≡ drop out.new.text text.old)
         × (drop out.new.fields fields.new ≡ drop out.new.fields fields.old) }
-    ensures small { result ≡ buffer_too_small → WantsRecord (IsForGood dialect) bytes.now out.new }
+    ensures small { result ≡ buffer_too_small
+        → WantsRecord (IsRecordForGood dialect) bytes.now out.new }
     ensures room { result ≡ buffer_too_small
         → (length fields.old < out.new.fields) ⊎ (length text.old < out.new.text) }
     ensures kept { (result ≡ done → ⊥) → (fields.new ≡ fields.old) × (text.new ≡ text.old) }
@@ -219,7 +220,7 @@ fn read_partial(
         × (out.new.error_offset < length bytes.now) }
     ensures nowhere { (result ≡ invalid → ⊥) → out.new.error_offset ≡ 0 }
     ensures sizes { (result ≡ done → ⊥) → (result ≡ buffer_too_small → ⊥) → HasNoSizes out.new }
-    ensures incomplete { result ≡ incomplete → NoneForGood dialect bytes.now
+    ensures incomplete { result ≡ incomplete → NoRecordForGood dialect bytes.now
         × IsViablePrefix dialect bytes.now }
     ensures codes { (result ≡ done) ⊎ ((result ≡ buffer_too_small) ⊎ ((result ≡ invalid)
         ⊎ (result ≡ incomplete))) }
@@ -278,14 +279,14 @@ pub extern "C" fn exported_csv_record_partial(
     out: &mut Record,
 ) -> u32
     ensures record { result ≡ done → (d : Dialect) → IsDialect dialect.now d
-        → ShowsRecord (IsForGood d) bytes.now out.new
+        → ShowsRecord (IsRecordForGood d) bytes.now out.new
         (take out.new.text text.new) (take out.new.fields fields.new) }
     ensures fits { result ≡ done → (out.new.fields ≤ length fields.old)
         × (out.new.text ≤ length text.old) }
     ensures behind { result ≡ done → (drop out.new.text text.new ≡ drop out.new.text text.old)
         × (drop out.new.fields fields.new ≡ drop out.new.fields fields.old) }
     ensures small { result ≡ buffer_too_small → (d : Dialect) → IsDialect dialect.now d
-        → WantsRecord (IsForGood d) bytes.now out.new }
+        → WantsRecord (IsRecordForGood d) bytes.now out.new }
     ensures room { result ≡ buffer_too_small
         → (length fields.old < out.new.fields) ⊎ (length text.old < out.new.text) }
     ensures kept { (result ≡ done → ⊥) → (fields.new ≡ fields.old) × (text.new ≡ text.old) }
@@ -296,7 +297,7 @@ pub extern "C" fn exported_csv_record_partial(
     ensures nowhere { (result ≡ invalid → ⊥) → out.new.error_offset ≡ 0 }
     ensures sizes { (result ≡ done → ⊥) → (result ≡ buffer_too_small → ⊥) → HasNoSizes out.new }
     ensures incomplete { result ≡ incomplete → (d : Dialect) → IsDialect dialect.now d
-        → NoneForGood d bytes.now × IsViablePrefix d bytes.now }
+        → NoRecordForGood d bytes.now × IsViablePrefix d bytes.now }
     ensures codes { (result ≡ done) ⊎ ((result ≡ buffer_too_small) ⊎ ((result ≡ invalid)
         ⊎ ((result ≡ incomplete) ⊎ (result ≡ invalid_dialect)))) }
 {

@@ -4,9 +4,9 @@ ghost use Rattle.std.specs.Prelude.{◌≡◌, ◌≤◌, ◌<◌, ◌⊎◌, �
 ghost use Rattle.std.specs.Prelude.{take};
 ghost use Rattle.std.specs.Str.{IsUtf8};
 ghost use Rattle.format_json_extents.specs.Standard.{IsTextByStandard, IsValueByStandard};
-ghost use Rattle.format_json_extents.specs.Texts.{IsLongest, NoneStands, Then};
+ghost use Rattle.format_json_extents.specs.Texts.{IsLongest, NoMatchAtStart, Then};
 ghost use Rattle.format_json_extents.specs.Value.{IsText, IsValue};
-ghost use Rattle.format_json_extents.specs.Walk.{EndsItems, IsLead};
+ghost use Rattle.format_json_extents.specs.Walk.{EndsItems, IsSeparator};
 ghost use Rattle.exported.specs.Code.{done, end, invalid, invalid_utf8, max_depth_too_large};
 ghost use Rattle.exported.specs.Code.{supported_depth};
 ghost use Rattle.exported.specs.Json.{ShowsItem, no_item, number_of};
@@ -152,7 +152,7 @@ pub extern "C" fn exported_json_check(text: &[u8], max_depth: usize) -> u32
 pub extern "C" fn exported_json_value(bytes: &[u8], max_depth: usize, out: &mut usize) -> u32
     ensures found { result ≡ done → IsLongest (IsValue max_depth) (take out.new bytes.now) bytes.now
         (drop out.new bytes.now) × (out.new ≤ length bytes.now) }
-    ensures refused { result ≡ invalid → NoneStands (IsValue max_depth) bytes.now }
+    ensures refused { result ≡ invalid → NoMatchAtStart (IsValue max_depth) bytes.now }
     ensures standard { result ≡ done → IsUtf8 (take out.new bytes.now)
         → IsValueByStandard max_depth (take out.new bytes.now) }
     ensures longest { max_depth ≤ supported_depth → (value rest : List ℕ)
@@ -209,7 +209,8 @@ pub extern "C" fn exported_json_value(bytes: &[u8], max_depth: usize, out: &mut 
 pub extern "C" fn exported_json_next(bytes: &[u8], max_depth: usize, out: &mut JsonItem) -> u32
     ensures item { result ≡ done → ShowsItem max_depth bytes.now out.new }
     ensures end { result ≡ end → EndsItems bytes.now }
-    ensures refused { result ≡ invalid → NoneStands (Then IsLead (IsValue max_depth)) bytes.now
+    ensures refused { result ≡ invalid
+        → NoMatchAtStart (Then IsSeparator (IsValue max_depth)) bytes.now
         × (EndsItems bytes.now → ⊥) }
     ensures none { (result ≡ done → ⊥) → out.new ≡ no_item }
     ensures deep { (result ≡ max_depth_too_large) ↔ (supported_depth < max_depth) }

@@ -1,7 +1,7 @@
 //! Replies of Redis.
 
 ghost use Rattle.std.specs.Prelude.{◌≡◌, ◌≤◌, ◌<◌, ◌⊎◌, ◌↔◌, length};
-ghost use Rattle.format_resp.specs.Extents.{IsOf};
+ghost use Rattle.format_resp.specs.Extents.{IsExtentOf};
 ghost use Rattle.format_resp.specs.declared.extent.Reason.TheVariants as reasons;
 ghost use Rattle.exported.specs.Code.{done, incomplete, invalid, max_depth_too_large, no_memory};
 ghost use Rattle.exported.specs.Code.{out_of_range, supported_depth, too_deep};
@@ -309,7 +309,7 @@ pub extern "C" fn exported_resp_extent(
     protocol: u32,
     out: &mut usize,
 ) -> u32
-    ensures told { IsOf (protocol_of protocol) (extent_of state.old) bytes.now
+    ensures told { IsExtentOf (protocol_of protocol) (extent_of state.old) bytes.now
         → TellsEnd (protocol_of protocol) bytes.now result out.new state.new }
     ensures none { result ≡ incomplete → out.new ≡ 0 }
     ensures within { out.new ≤ length bytes.now }

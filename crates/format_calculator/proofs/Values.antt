@@ -7,7 +7,7 @@ use Rattle.std.proofs.Math.Nat.{mul-suc}
 use Rattle.std.proofs.Common.{suc, zero, refl, sym, ◌∙◌, ap, subst, inl, inr, arith}
 use Rattle.streams.specs.Input.{Input}
 use Rattle.stream_errors.specs.Form.{Answer}
-use Rattle.winnow_expression_trees.specs.Items.{Gives, GivesOne}
+use Rattle.winnow_expression_trees.specs.Items.{FoldGives, GivesAtMostOne}
 use Rattle.format_calculator.specs.Calculator.{GivesOption, IsAnswerOf, IsPower, IsUnitPower}
 use Rattle.format_calculator.specs.Calculator.{factorial, mark_value, pair_value, sign_value}
 use Rattle.format_calculator.specs.declared.calc.operators.Mark.{Mark}
@@ -19,14 +19,14 @@ use Rattle.format_calculator.specs.declared.calc.operators.Pair.TheVariants.{Equ
 use Rattle.format_calculator.specs.declared.calc.operators.Sign.{Sign}
 use Rattle.format_calculator.specs.declared.calc.operators.Sign.TheVariants.{Positive, Negative}
 
-pub one_sign : (f : Sign) (v : ℤ) → GivesOne (sign_value f v)
+pub one_sign : (f : Sign) (v : ℤ) → GivesAtMostOne (sign_value f v)
 one_sign Positive v x y e f = e ∙ sym f
 one_sign Negative v x y (fits, e) (fits2, f) = e ∙ sym f
 
 pos_is_injective : {m n : ℕ} → pos m ≡ pos n → m ≡ n
 pos_is_injective e = cc
 
-pub one_mark : (g : Mark) (v : ℤ) → GivesOne (mark_value g v)
+pub one_mark : (g : Mark) (v : ℤ) → GivesAtMostOne (mark_value g v)
 one_mark Factorial v x y (n, is, fits, e) (m, was, fits2, f) =
     let same : n ≡ m = pos_is_injective (sym is ∙ was) in
     e ∙ ap (λ k. pos (factorial k)) same ∙ sym f
@@ -40,7 +40,7 @@ zero_less e = absurd (cc)
 one_is_not_minus_one : {X : Type 0} → pos 1 ≡ neg_ℤ (pos 1) → X
 one_is_not_minus_one e = absurd (cc)
 
-one_unit : (v : ℤ) (n : ℕ) → GivesOne (IsUnitPower v n)
+one_unit : (v : ℤ) (n : ℕ) → GivesAtMostOne (IsUnitPower v n)
 one_unit v n x y (inl (is, e)) (inl (was, f)) = e ∙ sym f
 one_unit v n x y (inl (is, e)) (inr (inl (was, f))) = zero_is_not_one (sym is ∙ was)
 one_unit v n x y (inl (is, e)) (inr (inr (was, f))) = zero_less (sym is ∙ was)
@@ -51,7 +51,7 @@ one_unit v n x y (inr (inr (is, e))) (inl (was, f)) = zero_less (sym was ∙ is)
 one_unit v n x y (inr (inr (is, e))) (inr (inl (was, f))) = one_is_not_minus_one (sym was ∙ is)
 one_unit v n x y (inr (inr (is, e))) (inr (inr (was, f))) = e ∙ sym f
 
-one_power : (v w : ℤ) → GivesOne (IsPower v w)
+one_power : (v w : ℤ) → GivesAtMostOne (IsPower v w)
 one_power v w x y (n, is, inl (low, fits, e)) (m, was, inl (low2, fits2, f)) =
     let same : n ≡ m = pos_is_injective (sym is ∙ was) in e ∙ ap (λ k. int_pow v k) same ∙ sym f
 one_power v w x y (n, is, inl (low, fits, e)) (m, was, inr (high, of)) =
@@ -62,7 +62,7 @@ one_power v w x y (n, is, inr (high, of)) (m, was, inr (high2, of2)) =
     let same : n ≡ m = pos_is_injective (sym is ∙ was) in
     one_unit v m x y (subst (λ k. IsUnitPower v k x) same of) of2
 
-pub one_pair : (h : Pair) (v w : ℤ) → GivesOne (pair_value h v w)
+pub one_pair : (h : Pair) (v w : ℤ) → GivesAtMostOne (pair_value h v w)
 one_pair Plus v w x y (fits, e) (fits2, f) = e ∙ sym f
 one_pair Minus v w x y (fits, e) (fits2, f) = e ∙ sym f
 one_pair Times v w x y (fits, e) (fits2, f) = e ∙ sym f
@@ -109,13 +109,13 @@ power_as v w x y r e f is =
 
 pub mark_as : {T : Type 0} (g : Mark) (v x : ℤ) (r : Option ℤ) (a : Answer ℤ) (i : Input T) → x ≡ v
     → Factorial ≡ g → GivesOption (mark_value Factorial x) r → IsAnswerOf r a
-    → Gives (mark_value g v) i a i
+    → FoldGives (mark_value g v) i a i
 mark_as g v x r a i e f is answer =
     let P : Mark → ℤ → Type 0 = λ h y. GivesOption (mark_value h y) r in
     given (mark_value g v) r a i (subst (λ h. P h v) f (subst (λ y. P Factorial y) e is)) answer
   where
     given : {T : Type 0} (gives : ℤ → Type 0) (r : Option ℤ) (a : Answer ℤ) (i : Input T)
-        → GivesOption gives r → IsAnswerOf r a → Gives gives i a i
+        → GivesOption gives r → IsAnswerOf r a → FoldGives gives i a i
     given gives None a i none e = inr (none, e, refl)
     given gives (Some y) a i is e = inl (y, is, e, refl)
 

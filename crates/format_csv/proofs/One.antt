@@ -5,7 +5,7 @@ use Rattle.std.specs.declared.vec.Vec.{Vec}
 use Rattle.std.proofs.Common.{sym, ap, subst, ◌∙◌, arith}
 use Rattle.std.proofs.lemmas.List.{length-map}
 use Rattle.format_csv_records.specs.Commas.{commas_apart}
-use Rattle.format_csv_records.proofs.One.{fields_one}
+use Rattle.format_csv_records.proofs.One.{fields_unique}
 use Rattle.format_csv.specs.Csv.{AreRecords, IsRecord, bytes_of, commas}
 use Rattle.format_csv.specs.declared.LineEnd.{LineEnd}
 use Rattle.grammars.specs.Grammar.{Each}
@@ -32,7 +32,7 @@ module _ {A : Type 0} (ends : LineEnd) where
   each_one (o ∷ os) [] bytes (mid, x, more) b = no_bytes bytes o mid x b
   each_one (o ∷ os) (p ∷ ps) bytes (mid, x, more) (behind, y, others) =
       let P : List ℕ → Type 0 = λ l. Each (IsRecord ends) l ps [] in
-      let (fields, rest) = fields_one (commas ends) commas_apart (bytes_of o.items)
+      let (fields, rest) = fields_unique (commas ends) commas_apart (bytes_of o.items)
       (bytes_of p.items) bytes mid behind x.1 y.1 in
       (fields, each_one os ps mid more (subst P (sym rest) others))
 

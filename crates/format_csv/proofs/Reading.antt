@@ -2,7 +2,8 @@
 use Rattle.std.specs.Prelude.{◌≡◌, ◌<◌, ℕ, List, Err, Ok, drop, length, true, None, Result}
 use Rattle.std.specs.declared.vec.Vec.{Vec}
 use Rattle.std.proofs.Common.{arith, inr, refl}
-use Rattle.format_csv_records.proofs.One.{fields_one, fields_split, refused_none}
+use Rattle.format_csv_records.proofs.One.{fields_unique, refused_is_no_record}
+use Rattle.format_csv_records.proofs.One.{rest_of_fields_is_suffix}
 use Rattle.format_csv_records.specs.Buffers.{IsSized}
 use Rattle.format_csv_records.specs.Commas.{commas_apart}
 use Rattle.format_csv_records.specs.Dialects.{AreFields}
@@ -31,7 +32,8 @@ module _ {A : Type 0} (ends : LineEnd) (bytes : List ℕ) where
       (are : AreFields (commas ends) bytes (bytes_of fields.items) rest) where
     behind : IsEndOf bytes_reading (bytes_input rest) (bytes_input bytes)
     behind =
-        let it = fields_split (commas ends) (bytes_of fields.items) bytes rest are in record {
+        let it = rest_of_fields_is_suffix (commas ends) (bytes_of fields.items) bytes rest are
+        in record {
           ends = record { dropped = it.front; tokens = it.is; place = refl; possible = refl };
           cut = refl;
         }
@@ -49,7 +51,7 @@ module _ {A : Type 0} (ends : LineEnd) (bytes : List ℕ) where
         → ReadsOrAsks bytes_reading bytes_follow kind (IsRecord ends) i (Ok fields) j
     unfolding IsRecord
     reads_line {kind = kind} i j here there size (others, it) ended =
-        let (same, over) = fields_one (commas ends) commas_apart others (bytes_of fields.items)
+        let (same, over) = fields_unique (commas ends) commas_apart others (bytes_of fields.items)
         bytes (drop size.length bytes) rest it.is_record.1 are in
         let good = rw (same, over) at (rw ended at it.ended) in
         rw (here, there) (record {
@@ -84,7 +86,7 @@ module _ {A : Type 0} (ends : LineEnd) (bytes : List ℕ) where
       none = λ _. inr (
         backs,
         λ fields rest it.
-            refused_none (commas ends) bytes fault (bytes_of fields.items) rest refused it,
+            refused_is_no_record (commas ends) bytes fault (bytes_of fields.items) rest refused it,
       );
     }
 

@@ -20,9 +20,9 @@ use Rattle.grammars.specs.Grammar.Inversion.{Listed}
 use Rattle.format_csv.specs.Table.{HeadTold, IsFirst, TableTold}
 
 module _ {X : Type 0} (such : X → Type 0) (xs : List X) (place : ℕ) where
-  pub first_at : {those : X → Type 0} (x : X) → x ≡ get_or xs place x → place < length xs
+  pub is_first_at_place : {those : X → Type 0} (x : X) → x ≡ get_or xs place x → place < length xs
       → All such (take place xs) → those x → IsFirst such those xs place
-  first_at x is within all one = record {
+  is_first_at_place x is within all one = record {
     before = take place xs;
     found = x;
     behind = drop (place + 1) xs;
@@ -36,13 +36,14 @@ module _ {X : Type 0} (such : X → Type 0) (xs : List X) (place : ℕ) where
   }
 
   -- so is this one
-  pub one_more : (x : X) → x ≡ get_or xs place x → place < length xs → All such (take place xs)
+  pub all_before_next : (x : X) → x ≡ get_or xs place x → place < length xs
+      → All such (take place xs)
       → such x → All such (take (place + 1) xs)
-  one_more x is within all it = All-more such xs place x within all (subst such is it)
+  all_before_next x is within all it = All-more such xs place x within all (subst such is it)
 
   -- nothing remains
-  pub all_of : length xs ≤ place → All such (take place xs) → All such xs
-  all_of past all = subst (All such) (take_all place xs past) all
+  pub all_before_end : length xs ≤ place → All such (take place xs) → All such xs
+  all_before_end past all = subst (All such) (take_all place xs past) all
 
 -- what a document's records are, the document is
 pub table_told : {A I X : Type 0} {inner_kind : X → Kind} {bytes : List ℕ}

@@ -1,6 +1,6 @@
 -- Records are unique and consume bytes.
 use Rattle.format_csv_records.specs.Commas.{commas_apart}
-use Rattle.format_csv_records.proofs.One.{fields_less, fields_one, fields_split}
+use Rattle.format_csv_records.proofs.One.{fields_less, fields_unique, rest_of_fields_is_suffix}
 use Rattle.format_csv.specs.Csv.{IsRecord, bytes_of, commas}
 use Rattle.format_csv.specs.declared.LineEnd.{LineEnd}
 use Rattle.grammars.specs.Grammar.{IsUnique, TakesTokens}
@@ -10,10 +10,11 @@ module _ {A : Type 0} (ends : LineEnd) where
   unfolding IsRecord
   record_unique = record {
     ends = λ bytes fields rest (some, are).
-        let it = fields_split (commas ends) (bytes_of fields.items) bytes rest are in
+        let it = rest_of_fields_is_suffix (commas ends) (bytes_of fields.items) bytes rest are in
         (it.front, it.is);
     one = λ bytes fields others rest left (some, are) (more, too).
-        (fields_one (commas ends) commas_apart (bytes_of fields.items) (bytes_of others.items) bytes
+        (fields_unique (commas ends) commas_apart (bytes_of fields.items)
+        (bytes_of others.items) bytes
         rest left are too).1;
   }
 

@@ -7,7 +7,7 @@ use Rattle.std.proofs.Common.{length-append}
 use Rattle.std.proofs.lemmas.List.{append-nil, drop_at}
 use Rattle.std.proofs.lemmas.List.Elements.{All-cons, All-nil}
 use Rattle.format_csv_records.specs.Apart.{IsApart}
-use Rattle.format_csv_records.specs.Buffers.{IsForGood, IsSized, NoneForGood, text_of}
+use Rattle.format_csv_records.specs.Buffers.{IsRecordForGood, IsSized, NoRecordForGood, text_of}
 use Rattle.format_csv_records.specs.Dialects.{AreFields, IsFieldText, IsLineEnd}
 use Rattle.format_csv_records.specs.Dialects.{IsRecord, doubled}
 use Rattle.format_csv_records.specs.Early.{IsViablePrefix}
@@ -20,7 +20,7 @@ use Rattle.format_csv_records.specs.declared.extent.RecordPlace.TheVariants as p
 use Rattle.format_csv_records.specs.declared.read.Reason.TheVariants.{OpenQuote, WrongLineEnd}
 use Rattle.format_csv_records.proofs.Alone.{line_end_is_not_empty}
 use Rattle.format_csv_records.proofs.Early.{feed, line_end_of}
-use Rattle.format_csv_records.proofs.One.{fields_one}
+use Rattle.format_csv_records.proofs.One.{fields_unique}
 use Rattle.format_csv_records.proofs.Placing.{text_more}
 use Rattle.format_csv_records.proofs.Stepping.{field_text, plain_text, quote_text}
 use Rattle.format_csv_records.proofs.Stepping.{never_return}
@@ -137,10 +137,11 @@ module _ (d : Dialect) (at : RecordPlace) (not : at ≡ place.Done → ⊥) (tex
         );
       }
 
-  pub none_for_good : IsApart d.delimiter d.quote → NoneForGood d front
+  pub none_for_good : IsApart d.delimiter d.quote → NoRecordForGood d front
   none_for_good apart others rest all =
       let c = closes_at d at not it.field it.begun it.is in
-      let (same, over) = fields_one d apart others (row_of it) (front ++ c.more) (rest ++ c.more) []
+      let (same, over) =
+      fields_unique d apart others (row_of it) (front ++ c.more) (rest ++ c.more) []
       (all c.more).1
       (rw (append-nil (front ++ c.more)) at (ended d (IsFieldPrefix d at) text fields front it
       c.more c.text c.end c.is_text c.is_end c.same [])) in
@@ -154,7 +155,7 @@ sized_by : (d : Dialect) (so : List ℕ → List ℕ → Type 0) (text fields : 
     → IsRecord d bytes (row_of it) left
     → (size : RecordSize) → size.fields ≡ fields + 1 → size.text ≡ text
     → size.length ≡ length front
-    → MatchBool size.ended (IsForGood d bytes (row_of it) left) (NoneForGood d bytes)
+    → MatchBool size.ended (IsRecordForGood d bytes (row_of it) left) (NoRecordForGood d bytes)
     → IsSized d bytes size
 sized_by d so text fields front bytes left it splits is size count total long good =
     let dropped : drop size.length bytes ≡ left =
@@ -194,7 +195,7 @@ sized_whole d text fields front bytes left it splits size count total long close
       length-append whole end,
       line_end_is_not_empty d.ends end ends,
     ) in
-    let good : IsForGood d bytes (row_of it) left = λ more.
+    let good : IsRecordForGood d bytes (row_of it) left = λ more.
     let wide : bytes ++ more ≡ front ++ (left ++ more) =
     ap (λ l. l ++ more) splits ∙ append_assoc front left more in (
       omega (arith, some, ap (λ l. length l) wide, length-append front (left ++ more)),

@@ -4,16 +4,17 @@ use Rattle.std.specs.Prelude.{◌∷◌}
 use Rattle.std.specs.Prelude.{◌++◌, take, drop, length, if◌then◌else◌, is_ok, OnOk, Result, Ok, Err}
 use Rattle.std.proofs.Common.{refl, ap, arith, get_or}
 use Rattle.std.proofs.lemmas.List.{drop-append-le, length-drop, take-append-le, take_all}
-use Rattle.format_csv_records.specs.Records.{Rises, cut, field_at, last_of, start_of}
+use Rattle.format_csv_records.specs.Records.{AreAscending, cut, field_at, last_of, start_of}
 
-pub rises_last : (start : ℕ) (ends : List ℕ) (size : ℕ) → Rises start ends size
+pub rises_last : (start : ℕ) (ends : List ℕ) (size : ℕ) → AreAscending start ends size
     → last_of start ends ≤ size
-unfolding Rises last_of
+unfolding AreAscending last_of
 rises_last start [] size h = h
 rises_last start (end ∷ ends) size h = rises_last end ends size h.1
 
-pub rises_first : (start : ℕ) (ends : List ℕ) (size : ℕ) → Rises start ends size → start ≤ size
-unfolding Rises
+pub rises_first : (start : ℕ) (ends : List ℕ) (size : ℕ) → AreAscending start ends size
+    → start ≤ size
+unfolding AreAscending
 rises_first start [] size h = h
 rises_first start (end ∷ ends) size h =
     let rest = rises_first end ends size h.1 in
@@ -21,16 +22,16 @@ rises_first start (end ∷ ends) size h =
     omega arith
 
 -- more bytes
-pub rises_more : (start : ℕ) (ends : List ℕ) (size more : ℕ) → Rises start ends size
-    → size ≤ more → Rises start ends more
-unfolding Rises
+pub rises_more : (start : ℕ) (ends : List ℕ) (size more : ℕ) → AreAscending start ends size
+    → size ≤ more → AreAscending start ends more
+unfolding AreAscending
 rises_more start [] size more h g = omega arith
 rises_more start (end ∷ ends) size more h g = (h.0, rises_more end ends size more h.1 g)
 
 -- an end more
-pub rises_end : (start : ℕ) (ends : List ℕ) (size : ℕ) → Rises start ends size
-    → Rises start (ends ++ (size ∷ [])) size
-unfolding Rises
+pub rises_end : (start : ℕ) (ends : List ℕ) (size : ℕ) → AreAscending start ends size
+    → AreAscending start (ends ++ (size ∷ [])) size
+unfolding AreAscending
 rises_end start [] size h = (h, omega arith)
 rises_end start (end ∷ ends) size h = (h.0, rises_end end ends size h.1)
 
@@ -41,9 +42,9 @@ cut_length start (end ∷ ends) bytes = ap suc (cut_length end ends bytes)
 
 -- bytes after the last field change none
 pub cut_ignores_more_bytes : (start : ℕ) (ends bytes more : List ℕ)
-    → Rises start ends (length bytes)
+    → AreAscending start ends (length bytes)
     → cut start ends (bytes ++ more) ≡ cut start ends bytes
-unfolding cut Rises
+unfolding cut AreAscending
 cut_ignores_more_bytes start [] bytes more h = refl
 cut_ignores_more_bytes start (end ∷ ends) bytes more h =
     let up = rises_first end ends (length bytes) h.1 in
@@ -58,10 +59,10 @@ cut_ignores_more_bytes start (end ∷ ends) bytes more h =
     rw (head, cut_ignores_more_bytes end ends bytes more h.1) refl
 
 -- an end more ends the bytes after the last field
-pub cut_with_last_field : (start : ℕ) (ends bytes : List ℕ) → Rises start ends (length bytes)
+pub cut_with_last_field : (start : ℕ) (ends bytes : List ℕ) → AreAscending start ends (length bytes)
     → cut start (ends ++ (length bytes ∷ [])) bytes
     ≡ cut start ends bytes ++ (drop (last_of start ends) bytes ∷ [])
-unfolding cut Rises last_of
+unfolding cut AreAscending last_of
 cut_with_last_field start [] bytes h =
     let size = length-drop start bytes in
     let all : length (drop start bytes) ≤ length bytes - start = omega arith in
@@ -105,9 +106,9 @@ start_next start (e ∷ f ∷ es) (suc i) d lt =
     rw step (start_next e (f ∷ es) i d (omega arith))
 
 -- a field lies within the bytes
-pub field_within : (start : ℕ) (ends : List ℕ) (size i : ℕ) → Rises start ends size
+pub field_within : (start : ℕ) (ends : List ℕ) (size i : ℕ) → AreAscending start ends size
     → i < length ends → (start_of start ends i ≤ get_or ends i 0) × (get_or ends i 0 ≤ size)
-unfolding Rises start_of
+unfolding AreAscending start_of
 field_within start [] size i h lt = absurd (omega arith)
 field_within start (e ∷ es) size zero h lt = (h.0, rises_first e es size h.1)
 field_within start (e ∷ es) size (suc i) h lt = field_within e es size i h.1 (omega arith)

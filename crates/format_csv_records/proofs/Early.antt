@@ -7,7 +7,7 @@ use Rattle.std.proofs.lemmas.List.{append-nil, nil_from_length}
 use Rattle.std.proofs.lemmas.List.Elements.{All-append, All-cons, All-nil}
 use Rattle.format_csv_records.specs.Dialects.{AreFields, IsLineEnd, IsRecord}
 use Rattle.format_csv_records.specs.Early.{IsPrefixOfNone, IsViablePrefix}
-use Rattle.format_csv_records.specs.Refused.{IsRefused, Lacks, NoneWith}
+use Rattle.format_csv_records.specs.Refused.{IsRefused, LacksForRecord, NoRecordWith}
 use Rattle.format_csv_records.specs.declared.dialect.Dialect.{Dialect}
 use Rattle.format_csv_records.specs.declared.dialect.LineEnds.{LineEnds}
 use Rattle.format_csv_records.specs.declared.dialect.LineEnds.TheVariants.{CrLf, Either, Lf}
@@ -160,7 +160,7 @@ none_goes_on d =
 
 -- the missing bytes, if the error is at the end of the bytes
 lacks_one : (d : Dialect) → d.quote < 256 → (why : Reason) (before more : List ℕ)
-    → Lacks d why before more [] → (length more ≤ 1) × All (λ b. b < 256) more
+    → LacksForRecord d why before more [] → (length more ≤ 1) × All (λ b. b < 256) more
 lacks_one d small QuoteInField before more (is, none, ends) = absurd none
 lacks_one d small ByteBehindQuote before more (is, none, ends) = absurd none
 lacks_one d small OpenQuote before more (is, none) =
@@ -184,7 +184,7 @@ open_goes_on d small bytes fault (before, back, more, fields, e, size, on, lacks
     (record_goes_on d before more fields [] one known on)
 
 -- an error before the end of the bytes
-none_within : (d : Dialect) (before back : List ℕ) → (back ≡ [] → ⊥) → NoneWith d before back
+none_within : (d : Dialect) (before back : List ℕ) → (back ≡ [] → ⊥) → NoRecordWith d before back
     → IsPrefixOfNone d (before ++ back)
 none_within d before [] some none more fields rest it = absurd (some refl)
 none_within d before (b ∷ bs) some none more fields rest it =

@@ -7,10 +7,10 @@ use Rattle.std.proofs.Common.{refl, sym, ap, inl, inr, ◌∙◌, arith, append_
 use Rattle.std.proofs.Common.{length-append}
 use Rattle.std.proofs.lemmas.List.{append-nil, drop_at, length-drop, take-append-drop, take_all}
 use Rattle.format_csv_records.specs.Apart.{IsApart}
-use Rattle.format_csv_records.specs.Extents.{IsFieldPrefix, IsLed, IsOf, IsRun, IsStopped, IsTurn}
-use Rattle.format_csv_records.specs.Extents.{Keeps}
-use Rattle.format_csv_records.specs.Extents.{Passed, RecordResult, Says, Walks}
-use Rattle.format_csv_records.specs.Parts.{Done}
+use Rattle.format_csv_records.specs.Extents.{IsExtentOf, IsFieldPrefix, IsLed, IsRun, IsStopped}
+use Rattle.format_csv_records.specs.Extents.{IsTurn, KeepsPassed, Passed, RecordResult}
+use Rattle.format_csv_records.specs.Extents.{ReportsResult, Walks}
+use Rattle.format_csv_records.specs.Parts.{DelimitedFields}
 use Rattle.format_csv_records.specs.Refused.{IsRefused}
 use Rattle.format_csv_records.specs.declared.buffers.RecordSize.{RecordSize}
 use Rattle.format_csv_records.specs.declared.dialect.Dialect.{Dialect}
@@ -32,7 +32,7 @@ pub record After (d : Dialect) (new : RecordExtent) (bytes left : List ℕ) : Ty
   pub passed : Passed d (IsFieldPrefix d new.place) new.text new.fields front
 
 pub after : (d : Dialect) (old new : RecordExtent) (bytes : List ℕ)
-    (result : Result (Option RecordSize) InvalidRecord) (is : IsOf d old bytes)
+    (result : Result (Option RecordSize) InvalidRecord) (is : IsExtentOf d old bytes)
     (led : IsLed d old (drop old.passed bytes) new result) → After d new bytes led.1
 after d old new bytes result is (taken, left, why, e, sum, keeps, stopped, says) =
     let fresh : drop old.passed bytes ≡ is.left =
@@ -53,7 +53,7 @@ module _ (d : Dialect) (apart : IsApart d.delimiter d.quote) (new : RecordExtent
       rw (it.splits ∙ ap (λ l. it.front ++ l) none ∙ append-nil it.front) it.passed
 
   tells : d.quote < 256 → (result : Result (Option RecordSize) InvalidRecord)
-      (why : Option Reason) → IsStopped d new.place left why → Says new why result
+      (why : Option Reason) → IsStopped d new.place left why → ReportsResult new why result
       → RecordResult d bytes result
   tells small (Ok (Some size)) why stopped (none, done, count, total, long, closed) = (
     sized_whole d new.text new.fields it.front bytes left (rw done at it.passed) it.splits size
@@ -86,7 +86,7 @@ module _ (d : Dialect) (apart : IsApart d.delimiter d.quote) (new : RecordExtent
             )),
       )
 
-  pub of_after : (more : List ℕ) → IsOf d new (bytes ++ more)
+  pub of_after : (more : List ℕ) → IsExtentOf d new (bytes ++ more)
   of_after more = record {
     front = it.front;
     left = left ++ more;
@@ -97,7 +97,7 @@ module _ (d : Dialect) (apart : IsApart d.delimiter d.quote) (new : RecordExtent
 
 pub told : (d : Dialect) → IsApart d.delimiter d.quote → d.quote < 256
     → (old new : RecordExtent) (bytes : List ℕ) (result : Result (Option RecordSize) InvalidRecord)
-    → IsOf d old bytes → IsLed d old (drop old.passed bytes) new result
+    → IsExtentOf d old bytes → IsLed d old (drop old.passed bytes) new result
     → RecordResult d bytes result
 told d apart small old new bytes result is led =
     tells d apart new bytes led.1 (after d old new bytes result is led) small result led.2 led.6
@@ -105,19 +105,19 @@ told d apart small old new bytes result is led =
 
 pub kept : (d : Dialect) → IsApart d.delimiter d.quote → (old new : RecordExtent)
     (bytes : List ℕ) (result : Result (Option RecordSize) InvalidRecord)
-    → IsOf d old bytes → IsLed d old (drop old.passed bytes) new result
-    → (more : List ℕ) → IsOf d new (bytes ++ more)
+    → IsExtentOf d old bytes → IsLed d old (drop old.passed bytes) new result
+    → (more : List ℕ) → IsExtentOf d new (bytes ++ more)
 kept d apart old new bytes result is led =
     of_after d apart new bytes led.1 (after d old new bytes result is led)
 
 says_result : (d : Dialect) (old new : RecordExtent) (fresh : List ℕ)
     (result : Result (Option RecordSize) InvalidRecord) (led : IsLed d old fresh new result)
-    → Says new led.2 result
+    → ReportsResult new led.2 result
 says_result d old new fresh result led = led.7
 
 -- if the result is `None`, all bytes are passed
 pub open_after : (d : Dialect) → IsApart d.delimiter d.quote → (old new : RecordExtent)
-    (bytes : List ℕ) → IsOf d old bytes → IsLed d old (drop old.passed bytes) new (Ok None)
+    (bytes : List ℕ) → IsExtentOf d old bytes → IsLed d old (drop old.passed bytes) new (Ok None)
     → Passed d (IsFieldPrefix d new.place) new.text new.fields bytes × (new.passed ≡ length bytes)
     × (new.place ≡ place.Done → ⊥)
 open_after d apart old new bytes is led =
@@ -139,7 +139,7 @@ open_after d apart old new bytes is led =
     ]
 
 -- an extent of bytes has passed no more of them, and has few fields
-pub within : (d : Dialect) (old : RecordExtent) (bytes : List ℕ) → IsOf d old bytes
+pub within : (d : Dialect) (old : RecordExtent) (bytes : List ℕ) → IsExtentOf d old bytes
     → (old.passed ≤ length bytes) × (old.text ≤ old.passed) × (old.fields ≤ old.passed)
 within d old bytes is = (
   omega (arith, is.size, ap (λ l. length l) is.splits, length-append is.front is.left),
@@ -148,8 +148,8 @@ within d old bytes is = (
 )
 
 pub of_none : (d : Dialect) (extent : RecordExtent) (bytes : List ℕ) → extent.passed ≡ 0
-    → extent.text ≡ 0 → extent.fields ≡ 0 → extent.place ≡ place.Field → IsOf d extent bytes
-unfolding Done
+    → extent.text ≡ 0 → extent.fields ≡ 0 → extent.place ≡ place.Field → IsExtentOf d extent bytes
+unfolding DelimitedFields
 of_none d extent bytes none text fields at = record {
   front = [];
   left = bytes;
@@ -175,7 +175,7 @@ of_none d extent bytes none text fields at = record {
 pub record Walking (d : Dialect) (from at : Step) (fresh rest : List ℕ) : Type 0 where
   pub taken : List ℕ
   pub splits : fresh ≡ taken ++ rest
-  pub keeps : Keeps d from.place from.text from.fields taken at.place at.text at.fields
+  pub keeps : KeepsPassed d from.place from.text from.fields taken at.place at.text at.fields
   pub few : (at.text ≤ from.text + length taken) × (at.fields ≤ from.fields + length taken)
 
 pub walking_none : (d : Dialect) (from : Step) (fresh : List ℕ) → Walking d from from fresh fresh
@@ -189,7 +189,7 @@ walking_none d from fresh = record {
 -- more bytes are passed
 walking_more : (d : Dialect) (from at next : Step) (fresh rest run left : List ℕ)
     → Walking d from at fresh rest → rest ≡ run ++ left
-    → Keeps d at.place at.text at.fields run next.place next.text next.fields
+    → KeepsPassed d at.place at.text at.fields run next.place next.text next.fields
     → next.text ≤ at.text + length run → next.fields ≤ at.fields + length run
     → Walking d from next fresh left
 walking_more d from at next fresh rest run left it split keeps text fields = record {
@@ -243,7 +243,7 @@ pub led : (d : Dialect) (old : RecordExtent) (bytes fresh : List ℕ) (from : St
     → old.passed ≤ length bytes
     → (from.place ≡ old.place) × (from.text ≡ old.text) × (from.fields ≡ old.fields)
     → Walks d from fresh walked
-    → Says (record {
+    → ReportsResult (record {
       passed = length bytes - length walked.left.now;
       text = walked.at.text;
       fields = walked.at.fields;

@@ -5,13 +5,13 @@ use Rattle.std.specs.Prelude.{Err, Ok, Option, Result, false, true, ◌<◌, ◌
 use Rattle.std.proofs.KnownBytes.{Consumes-nil, Consumes-trans}
 use Rattle.std.proofs.Common.{◌∙◌, ap, append_assoc, append-nil, arith, inl, inr, refl, sym}
 use Rattle.std.proofs.Common.{take, drop_at, length-take-le, take_at}
-use Rattle.format_csv_records.specs.Buffers.{IsSized, NoneForGood}
-use Rattle.format_csv_records.specs.Extents.{IsOf}
+use Rattle.format_csv_records.specs.Buffers.{IsSized, NoRecordForGood}
+use Rattle.format_csv_records.specs.Extents.{IsExtentOf}
 use Rattle.format_csv_records.specs.declared.buffers.RecordSize.{RecordSize}
 use Rattle.format_csv_records.specs.declared.dialect.Dialect.{Dialect}
 use Rattle.format_csv_records.specs.declared.extent.RecordExtent.{RecordExtent}
-use Rattle.format_csv_records.specs.Finds.{IsFound, IsSmall, StartsForGood, IsOfReader}
-use Rattle.format_csv_records.specs.Held.{Grew}
+use Rattle.format_csv_records.specs.Finds.{IsFound, IsBoundedCapacity, StartsForGood, IsOfReader}
+use Rattle.format_csv_records.specs.Held.{GrewByReading}
 use Rattle.format_csv_records.specs.declared.finds.Found.{Found}
 use Rattle.format_csv_records.specs.declared.finds.Found.TheVariants.{Enough, Never}
 use Rattle.std.specs.Io.KnownBytes.{IsAtEnd}
@@ -41,26 +41,29 @@ found_over d held bytes IsOver found same it =
 
 pub state_on_more_bytes : (d : Dialect) (extent : RecordExtent) (held bytes read new : List ℕ)
     → held ≡ bytes
-    → ((more : List ℕ) → IsOf d extent (held ++ more)) → new ≡ bytes ++ read → IsOf d extent new
+    → ((more : List ℕ) → IsExtentOf d extent (held ++ more)) → new ≡ bytes ++ read
+    → IsExtentOf d extent new
 state_on_more_bytes d extent held bytes read new same kept is = rw (is, ← same) (kept read)
 
 pub state_on_same_bytes : (d : Dialect) (extent : RecordExtent) (held bytes : List ℕ) → held ≡ bytes
-    → ((more : List ℕ) → IsOf d extent (held ++ more)) → IsOf d extent bytes
+    → ((more : List ℕ) → IsExtentOf d extent (held ++ more)) → IsExtentOf d extent bytes
 state_on_same_bytes d extent held bytes same kept =
     state_on_more_bytes d extent held bytes [] bytes same kept (sym (append-nil bytes))
 
 -- ---- bytes that grew
 
-pub grew_none : (bytes : List ℕ) (source : Option (List ℕ)) → Grew bytes bytes source source
-grew_none bytes source = record {
+pub grew_refl : (bytes : List ℕ) (source : Option (List ℕ))
+    → GrewByReading bytes bytes source source
+grew_refl bytes source = record {
   read = [];
   grew = sym (append-nil bytes);
   consumed = Consumes-nil source;
 }
 
-pub grew_more : (a b c : List ℕ) (before between after : Option (List ℕ))
-    → Grew a b before between → Grew b c between after → Grew a c before after
-grew_more a b c before between after first second = record {
+pub grew_trans : (a b c : List ℕ) (before between after : Option (List ℕ))
+    → GrewByReading a b before between → GrewByReading b c between after
+    → GrewByReading a c before after
+grew_trans a b c before between after first second = record {
   read = first.read ++ second.read;
   grew = second.grew ∙ ap (λ l. l ++ second.read) first.grew
       ∙ append_assoc a first.read second.read;
@@ -73,12 +76,12 @@ grew_more a b c before between after first second = record {
 either_of : (n m : ℕ) → n ≤ max 8192 m → (n ≤ 8192) ⊎ (n ≤ m)
 either_of n m it = grind (arith, it)
 
-pub small_none : (d : Dialect) (size : ℕ) (bytes : List ℕ) → IsSmall d size size bytes
+pub small_none : (d : Dialect) (size : ℕ) (bytes : List ℕ) → IsBoundedCapacity d size size bytes
 small_none d size bytes = inl refl
 
 pub small_more : (d : Dialect) (old mid new : ℕ) (bytes read more : List ℕ)
-    → more ≡ bytes ++ read → NoneForGood d bytes → IsSmall d old mid bytes
-    → (new ≡ mid) ⊎ (new ≤ max 8192 (4 * length bytes)) → IsSmall d old new more
+    → more ≡ bytes ++ read → NoRecordForGood d bytes → IsBoundedCapacity d old mid bytes
+    → (new ≡ mid) ⊎ (new ≤ max 8192 (4 * length bytes)) → IsBoundedCapacity d old new more
 small_more d old mid new bytes read more e none (inl same) (inl kept) = inl (kept ∙ same)
 small_more d old mid new bytes read more e none (inr (inl few)) (inl kept) =
     inr (inl (omega (arith, few, kept)))
@@ -104,7 +107,7 @@ pub mark_long : (held bytes rest : List ℕ) → held ≡ bytes → held ≡ 239
 mark_long held bytes rest same e = omega (arith, ap (λ l. length l) (sym same ∙ e))
 
 module _ (old mid : List ℕ) (before after : Option (List ℕ)) (start : ℕ)
-    (grew : Grew old mid before after) where
+    (grew : GrewByReading old mid before after) where
   pub reads_none : (held : List ℕ) → held ≡ mid → NoMark held
       → (3 ≤ length mid) ⊎ IsAtEnd after → start < 2 ^ 64
       → ReadsMark old mid before after start start (Ok false)

@@ -13,7 +13,7 @@ use Rattle.std.specs.List.{All, prefix_len}
 use lib.Count.{count_trailing_zeros}
 use lib.Lanes.{chunk, mask_l, top, zip2}
 use Rattle.format_csv_records.specs.Dialects.{IsPlain}
-use Rattle.format_csv_records.specs.Parts.{SoMany}
+use Rattle.format_csv_records.specs.Parts.{LongestPrefixLength}
 use Rattle.format_csv_records.specs.declared.dialect.Dialect.{Dialect}
 
 -- ---- which lanes are set
@@ -83,15 +83,16 @@ module _ (p : ℕ → Bool) (P : ℕ → Type 0) (no : (x : ℕ) → p x ≡ tru
           (more (omega (arith, none, ap {B = ℕ} (λ b. cond b 1 0) is)))
 
   some_set : (xs ys : List ℕ) → 0 < mask_l (map p xs)
-      → SoMany P (xs ++ ys) (prefix_len (λ x. not (p x)) xs)
+      → LongestPrefixLength P (xs ++ ys) (prefix_len (λ x. not (p x)) xs)
   some_set [] ys some = absurd (omega (arith, some))
   some_set (x ∷ xs) ys some = by (p x) refl (λ more. some_set xs ys more)
     where
       R : ℕ → Type 0
-      R n = SoMany P (x ∷ (xs ++ ys)) n
+      R n = LongestPrefixLength P (x ∷ (xs ++ ys)) n
 
       by : (b : Bool) → p x ≡ b
-          → (0 < mask_l (map p xs) → SoMany P (xs ++ ys) (prefix_len (λ y. not (p y)) xs))
+          → (0 < mask_l (map p xs)
+          → LongestPrefixLength P (xs ++ ys) (prefix_len (λ y. not (p y)) xs))
           → R (prefix_len (λ y. not (p y)) (x ∷ xs))
       by true is ends =
           let more = prefix_len (λ y. not (p y)) xs in
@@ -121,25 +122,27 @@ module _ (d : Dialect) (bytes : List ℕ) (others : ℕ) (room : 16 ≤ length b
       (none_set (is_other d) (IsPlain d) (other_is_not_plain d) (all_other d) (chunk 0 16 bytes)
       (sym are ∙ none))
 
-  pub first_other : (others ≡ 0 → ⊥) → SoMany (IsPlain d) bytes (count_trailing_zeros 64 others)
+  pub first_other : (others ≡ 0 → ⊥)
+      → LongestPrefixLength (IsPlain d) bytes (count_trailing_zeros 64 others)
   first_other some =
       let v = chunk 0 16 bytes in
       let positive : 0 < mask_l (map (is_other d) v) = omega (arith, are, some) in
       let size : count_trailing_zeros 64 others ≡ prefix_len (λ x. not (is_other d x)) v =
       ap (count_trailing_zeros 64) are
       ∙ trailing_mask_l (is_other d) 64 v (omega (arith, length-chunk 0 16 bytes room)) positive in
-      subst (λ n. SoMany (IsPlain d) bytes n) (sym size)
-      (subst (λ l. SoMany (IsPlain d) l (prefix_len (λ x. not (is_other d x)) v))
+      subst (λ n. LongestPrefixLength (IsPlain d) bytes n) (sym size)
+      (subst (λ l. LongestPrefixLength (IsPlain d) l (prefix_len (λ x. not (is_other d x)) v))
       (sym (chunk-drop 0 16 bytes))
       (some_set (is_other d) (IsPlain d) (other_is_not_plain d) (all_other d) v (drop 16 bytes)
       positive))
 
 -- ---- the longest prefix, part by part
 
-pub run_full : (these : ℕ → Type 0) (bytes : List ℕ) (n : ℕ) → All these (take n bytes) → (k : ℕ)
+pub longest_prefix_append : (these : ℕ → Type 0) (bytes : List ℕ) (n : ℕ)
+    → All these (take n bytes) → (k : ℕ)
     → n ≡ k → k ≤ length bytes → (rest : List ℕ) → rest ≡ drop k bytes → (m : ℕ)
-    → SoMany these rest m → SoMany these bytes (k + m)
-run_full these bytes n before k same within rest is m (few, all, not) = (
+    → LongestPrefixLength these rest m → LongestPrefixLength these bytes (k + m)
+longest_prefix_append these bytes n before k same within rest is m (few, all, not) = (
   omega (arith, few, within, ap (λ l. length l) is, length-drop k bytes),
   rw (take-add k m bytes) (All-append these (take k bytes) (take m (drop k bytes))
       (rw same at before) (rw is at all)),

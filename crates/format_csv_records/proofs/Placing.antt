@@ -7,14 +7,15 @@ use Rattle.std.proofs.lemmas.List.{append-nil, drop-drop, drop-set-lt, drop_at}
 use Rattle.std.proofs.lemmas.List.{flat_map_more, length-drop, length-take-le}
 use Rattle.std.specs.List.{All}
 use Rattle.format_csv_records.specs.Apart.{IsApart}
-use Rattle.format_csv_records.specs.Buffers.{FieldPut, IsSized, Placed}
-use Rattle.format_csv_records.specs.Buffers.{Puts, PutsFields, ShowsFields, places_of, text_of}
-use Rattle.format_csv_records.specs.Dialects.{EndsHere}
-use Rattle.format_csv_records.specs.Parts.{Closed, FieldFirst, IsOther, NotFirst, SoMany}
+use Rattle.format_csv_records.specs.Buffers.{FieldPut, IsSized, PutsBytes, PutsFields, PutsPlace}
+use Rattle.format_csv_records.specs.Buffers.{ShowsFields, places_of, text_of}
+use Rattle.format_csv_records.specs.Dialects.{RecordEnds}
+use Rattle.format_csv_records.specs.Parts.{ClosedQuotes, IsNotQuote, LongestPrefixLength, NotFirst}
+use Rattle.format_csv_records.specs.Parts.{StartsWithField}
 use Rattle.format_csv_records.specs.declared.buffers.RecordSize.{RecordSize}
 use Rattle.format_csv_records.specs.declared.dialect.Dialect.{Dialect}
 use Rattle.format_csv_records.specs.declared.dialect.LineEnds.{LineEnds}
-use Rattle.format_csv_records.proofs.One.{ended_so, fields_one}
+use Rattle.format_csv_records.proofs.One.{ended_so, fields_unique}
 use Rattle.format_csv_records.proofs.Alone.{Between, closed_here, more_here, run_quote, take_quote}
 use Rattle.format_csv_records.proofs.Whole.{SoFar, first_text, so_far_ends, so_far_more}
 use Rattle.format_csv_records.proofs.Whole.{so_far_none}
@@ -44,7 +45,7 @@ run_stored at n now old x e =
 
 -- ---- bytes after bytes
 
-pub puts_none : (at : ℕ) (text : List ℕ) → Puts [] at text text at
+pub puts_none : (at : ℕ) (text : List ℕ) → PutsBytes [] at text text at
 puts_none at text = record {
   is_end = omega arith;
   same = refl;
@@ -52,8 +53,9 @@ puts_none at text = record {
   behind = refl;
 }
 
-pub puts_more : (xs ys : List ℕ) (at end last : ℕ) (old now new : List ℕ) → Puts xs at old now end
-    → Puts ys end now new last → Puts (xs ++ ys) at old new last
+pub puts_more : (xs ys : List ℕ) (at end last : ℕ) (old now new : List ℕ)
+    → PutsBytes xs at old now end
+    → PutsBytes ys end now new last → PutsBytes (xs ++ ys) at old new last
 puts_more xs ys at end last old now new it more = record {
   is_end = omega (arith, it.is_end, more.is_end, length-append xs ys);
   same = more.same ∙ it.same;
@@ -71,22 +73,24 @@ pub record QuotedSoFar (quote : ℕ) (bytes rest : List ℕ) (at : ℕ) (old new
     : Type 0 where
   pub begun : List ℕ
   pub read : Between quote bytes rest [] begun
-  pub puts : Puts begun at old new end
+  pub puts : PutsBytes begun at old new end
   pub less : end + length rest ≤ at + length bytes
 
 module _ (quote : ℕ) (bytes rest : List ℕ) (at : ℕ) (old now : List ℕ) (end n : ℕ)
-    (it : QuotedSoFar quote bytes rest at old now end) (run : SoMany (IsOther quote) rest n) where
+    (it : QuotedSoFar quote bytes rest at old now end)
+    (run : LongestPrefixLength (IsNotQuote quote) rest n) where
   -- the quote after it is put too
   pub quote_behind : (n ≡ length rest → ⊥) → (mid new : List ℕ)
-      → Puts (take n rest) end now mid (end + n) → Puts (quote ∷ []) (end + n) mid new (end + n + 1)
-      → Puts (take (n + 1) rest) end now new (end + n + 1)
+      → PutsBytes (take n rest) end now mid (end + n)
+      → PutsBytes (quote ∷ []) (end + n) mid new (end + n + 1)
+      → PutsBytes (take (n + 1) rest) end now new (end + n + 1)
   quote_behind some mid new puts more =
       rw (take_quote quote rest n run some)
       (puts_more (take n rest) (quote ∷ []) end (end + n) (end + n + 1) now mid new puts more)
 
   pub quoted_more : (n ≡ length rest → ⊥) → (left next added new : List ℕ) (last : ℕ)
       → left ≡ drop (n + 1) rest → left ≡ quote ∷ drop 1 left → next ≡ drop 1 left
-      → added ≡ take (n + 1) rest → Puts added end now new last
+      → added ≡ take (n + 1) rest → PutsBytes added end now new last
       → QuotedSoFar quote bytes next at old new last
   quoted_more some left next added new last is two goes adds puts = record {
     begun = it.begun ++ added;
@@ -109,8 +113,9 @@ module _ (quote : ℕ) (bytes rest : List ℕ) (at : ℕ) (old now : List ℕ) (
 
   pub quoted_closed : (n ≡ length rest → ⊥) → (left added new : List ℕ) (last : ℕ)
       → left ≡ drop (n + 1) rest → NotFirst (λ b. b ≡ quote) left → added ≡ take n rest
-      → Puts added end now new last
-      → (field : List ℕ) × Closed quote bytes field left × FieldPut field bytes left at old new last
+      → PutsBytes added end now new last
+      → (field : List ℕ) × ClosedQuotes quote bytes field left
+      × FieldPut field bytes left at old new last
   quoted_closed some left added new last is not adds puts =
       let (field, closed, e) = closed_here quote bytes rest [] it.begun n it.read run some left
       added (it.begun ++ added) is not adds refl in
@@ -193,7 +198,7 @@ nothing_put made d bytes text places = record {
 put_next_field : {P : Type 0} (made : ℕ → ℕ → P) (fields : List (List ℕ)) (old now new : List ℕ)
     (before between after : List P) (end count last : ℕ)
     → Put made fields old now before between end count → (field : List ℕ)
-    → Puts field end now new last → Placed (made end (last - end)) count between after
+    → PutsBytes field end now new last → PutsPlace (made end (last - end)) count between after
     → Put made (fields ++ field ∷ []) old new before after last (count + 1)
 unfolding places_of
 put_next_field made fields old now new before between after end count last it field puts
@@ -225,7 +230,7 @@ put_next_field made fields old now new before between after end count last it fi
           placed.behind ∙ later_same count (count + 1) 1 between before refl it.places_behind;
     }
 
-ends_with : (ends : LineEnds) (bytes rest : List ℕ) → EndsHere ends bytes rest
+ends_with : (ends : LineEnds) (bytes rest : List ℕ) → RecordEnds ends bytes rest
     → (front : List ℕ) × (bytes ≡ front ++ rest)
 ends_with ends bytes rest (inl (end, is, e)) = (end, e)
 ends_with ends bytes rest (inr (none, over)) = ([], none ∙ sym over)
@@ -233,9 +238,9 @@ ends_with ends bytes rest (inr (none, over)) = ([], none ∙ sym over)
 module _ {P : Type 0} (made : ℕ → ℕ → P) (d : Dialect) (apart : IsApart d.delimiter d.quote)
     (bytes rest old now : List ℕ) (before between : List P) (end count : ℕ)
     (it : FieldsSoFar made d bytes rest old now before between end count) (field left : List ℕ)
-    (first : FieldFirst d rest field left) (new : List ℕ) (last : ℕ)
+    (first : StartsWithField d rest field left) (new : List ℕ) (last : ℕ)
     (puts : FieldPut field rest left end now new last) (after : List P) (x : P)
-    (made_so : x ≡ made end (last - end)) (placed : Placed x count between after) where
+    (made_so : x ≡ made end (last - end)) (placed : PutsPlace x count between after) where
   put_here : Put made (it.fields ++ field ∷ []) old new before after last (count + 1)
   put_here =
       put_next_field made it.fields old now new before between after end count last it.put field
@@ -256,7 +261,7 @@ module _ {P : Type 0} (made : ℕ → ℕ → P) (d : Dialect) (apart : IsApart 
         few = omega (arith, it.few, puts.1, puts.0.is_end, size, ap (λ l. length l) is);
       }
 
-  pub fields_end : (over : List ℕ) (is : Bool) → EndsHere d.ends left over
+  pub fields_end : (over : List ℕ) (is : Bool) → RecordEnds d.ends left over
       → MatchBool is (0 < length left) (left ≡ []) → (n : ℕ) → n ≡ length bytes - length over
       → PutsFields made d bytes old new before after
       (record { fields = count + 1; text = last; length = n; ended = is })
@@ -297,7 +302,7 @@ module _ {P : Type 0} (made : ℕ → ℕ → P) (d : Dialect) (apart : IsApart 
     (sized : IsSized d bytes size) (put : PutsFields made d bytes old new before after found) where
   same_fields : sized.0 ≡ put.fields
   same_fields =
-      let (same, over) = fields_one d apart sized.0 put.fields bytes (drop size.length bytes)
+      let (same, over) = fields_unique d apart sized.0 put.fields bytes (drop size.length bytes)
       (drop found.length bytes) sized.1.is_record.1 put.are in same
 
   same_text : found.text ≡ size.text

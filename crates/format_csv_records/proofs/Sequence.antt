@@ -6,7 +6,7 @@ use Rattle.std.proofs.Common.{refl, sym, ap, subst, inl, inr, ◌∙◌, arith, 
 use Rattle.std.proofs.lemmas.List.{append-nil, length-append}
 use Rattle.std.specs.Io.KnownBytes.{IsAtEnd}
 use Rattle.format_csv_records.proofs.Alone.{line_end_is_not_empty}
-use Rattle.format_csv_records.specs.Dialects.{AreFields, EndsHere, IsRecord}
+use Rattle.format_csv_records.specs.Dialects.{AreFields, IsRecord, RecordEnds}
 use Rattle.format_csv_records.specs.declared.dialect.Dialect.{Dialect}
 use Rattle.format_csv_records.specs.declared.dialect.LineEnds.{LineEnds}
 use Rattle.format_csv_records.specs.Calls.{Calls, Texts, returned}
@@ -23,8 +23,8 @@ record Front (d : Dialect) (bytes : List ℕ) (fields : List (List ℕ)) (rest :
   is : bytes ≡ text ++ rest
   some : (0 < length text) ⊎ (rest ≡ [])
 
-ends_front : (ends : LineEnds) (bytes rest : List ℕ) → EndsHere ends bytes rest
-    → (end : List ℕ) × EndsHere ends end [] × (bytes ≡ end ++ rest)
+ends_front : (ends : LineEnds) (bytes rest : List ℕ) → RecordEnds ends bytes rest
+    → (end : List ℕ) × RecordEnds ends end [] × (bytes ≡ end ++ rest)
     × ((0 < length end) ⊎ (rest ≡ []))
 ends_front ends bytes rest (inl (end, is, e)) =
     (end, inl (end, is, sym (append-nil end)), e, inl (line_end_is_not_empty ends end is))

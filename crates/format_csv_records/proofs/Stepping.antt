@@ -8,9 +8,11 @@ use Rattle.std.proofs.lemmas.List.{append-nil, length-take-le}
 use Rattle.std.proofs.lemmas.List.Elements.{All-append, All-head, All-nil}
 use Rattle.format_csv_records.specs.Apart.{IsApart}
 use Rattle.format_csv_records.specs.Buffers.{text_of}
-use Rattle.format_csv_records.specs.Dialects.{EndsHere, IsFieldText, IsLineEnd, IsPlain, doubled}
-use Rattle.format_csv_records.specs.Extents.{IsBehind, IsFieldPrefix, IsRun, IsTurn, Keeps, Passed}
-use Rattle.format_csv_records.specs.Parts.{FieldFirst, IsOther, NotFirst, SoMany, WhyNot}
+use Rattle.format_csv_records.specs.Dialects.{IsFieldText, IsLineEnd, IsPlain, RecordEnds, doubled}
+use Rattle.format_csv_records.specs.Extents.{IsBehind, IsFieldPrefix, IsRun, IsTurn, KeepsPassed}
+use Rattle.format_csv_records.specs.Extents.{Passed}
+use Rattle.format_csv_records.specs.Parts.{IsNotQuote, LongestPrefixLength, NoEndReason, NotFirst}
+use Rattle.format_csv_records.specs.Parts.{StartsWithField}
 use Rattle.format_csv_records.specs.Refused.{IsRefused}
 use Rattle.format_csv_records.specs.declared.dialect.Dialect.{Dialect}
 use Rattle.format_csv_records.specs.declared.extent.RecordPlace.{RecordPlace}
@@ -19,7 +21,7 @@ use Rattle.format_csv_records.specs.declared.read.Reason.{Reason}
 use Rattle.format_csv_records.specs.declared.read.Reason.TheVariants.{WrongLineEnd}
 use Rattle.format_csv_records.specs.declared.turns.Step.{Step}
 use Rattle.format_csv_records.specs.declared.turns.Turn.TheVariants.{Goes}
-use Rattle.format_csv_records.proofs.Alone.{doubled_append, doubled_behind, doubled_none}
+use Rattle.format_csv_records.proofs.Alone.{doubled_append, doubled_append_run, doubled_nil}
 use Rattle.format_csv_records.proofs.Alone.{doubled_quote, quoted_behind, text_first}
 use Rattle.format_csv_records.proofs.Placing.{text_more}
 use Rattle.format_csv_records.proofs.Whole.{SoFar, done_more, so_far_bad}
@@ -135,7 +137,7 @@ pub grows_open : (d : Dialect)
 grows_open d field begun (none, nothing) = (
   [],
   omega (arith, ap (λ l. length l) none),
-  ap (λ l. l ++ d.quote ∷ []) nothing ∙ ap (λ l. d.quote ∷ l) (sym (doubled_none d.quote)),
+  ap (λ l. l ++ d.quote ∷ []) nothing ∙ ap (λ l. d.quote ∷ l) (sym (doubled_nil d.quote)),
 )
 
 pub grows_plain : (d : Dialect) (run : List ℕ) → All (IsPlain d) run
@@ -150,12 +152,12 @@ grows_plain d run all field begun (same, each, some) = (
   ),
 )
 
-pub grows_quoted : (d : Dialect) (run : List ℕ) → All (IsOther d.quote) run
+pub grows_quoted : (d : Dialect) (run : List ℕ) → All (IsNotQuote d.quote) run
     → Grows (IsFieldPrefix d place.Quoted) run (length run) (IsFieldPrefix d place.Quoted)
 grows_quoted d run all field begun is = (
   field ++ run,
   length-append field run,
-  ap (λ l. l ++ run) is ∙ ap (λ l. d.quote ∷ l) (sym (doubled_behind d.quote field run all)),
+  ap (λ l. l ++ run) is ∙ ap (λ l. d.quote ∷ l) (sym (doubled_append_run d.quote field run all)),
 )
 
 pub grows_quote : (d : Dialect)
@@ -171,13 +173,13 @@ grows_two d field begun is =
       ap (λ l. l ++ q ∷ []) is
           ∙ ap (λ l. q ∷ l) (append_assoc (doubled q field) (q ∷ []) (q ∷ [])
           ∙ ap (λ l. doubled q field ++ l)
-          (sym (doubled_quote q q [] refl ∙ ap (λ l. q ∷ q ∷ l) (doubled_none q)))
+          (sym (doubled_quote q q [] refl ∙ ap (λ l. q ∷ q ∷ l) (doubled_nil q)))
           ∙ sym (doubled_append q field (q ∷ []))),
     )
 
 pub keeps_run : (d : Dialect) (at : RecordPlace) (run : List ℕ) (n : ℕ) → length run ≡ n
     → Grows (IsFieldPrefix d at) run (length run) (IsFieldPrefix d at) → (text fields : ℕ)
-    → Keeps d at text fields run at (text + n) fields
+    → KeepsPassed d at text fields run at (text + n) fields
 keeps_run d at run n size grows text fields front it =
     grown d (IsFieldPrefix d at) (IsFieldPrefix d at) run (length run) text fields (text + n)
     fields front grows
@@ -232,13 +234,13 @@ behind_step d next b c same grows step (is, none, nothing) = (
 -- ---- runs
 
 pub run_plain : (d : Dialect) (at : RecordPlace) (bytes : List ℕ) (n : ℕ) → at ≡ place.Plain
-    → SoMany (IsPlain d) bytes n → IsRun d at (take n bytes) n
+    → LongestPrefixLength (IsPlain d) bytes n → IsRun d at (take n bytes) n
 run_plain d at bytes n is (room, all, not) =
     let size : length (take n bytes) ≡ n = length-take-le n bytes room in
     rw is (size, keeps_run d place.Plain (take n bytes) n size (grows_plain d (take n bytes) all))
 
 pub run_quoted : (d : Dialect) (at : RecordPlace) (bytes : List ℕ) (n : ℕ) → at ≡ place.Quoted
-    → SoMany (IsOther d.quote) bytes n → IsRun d at (take n bytes) n
+    → LongestPrefixLength (IsNotQuote d.quote) bytes n → IsRun d at (take n bytes) n
 run_quoted d at bytes n is (room, all, not) =
     let size : length (take n bytes) ≡ n = length-take-le n bytes room in
     rw is (size, keeps_run d place.Quoted (take n bytes) n size (grows_quoted d (take n bytes) all))
@@ -248,9 +250,9 @@ run_quoted d at bytes n is (room, all, not) =
 module _ (d : Dialect) (apart : IsApart d.delimiter d.quote) (b : ℕ) where
   pub stuck : (why : Reason) (so : List ℕ → List ℕ → Type 0)
       → ((field begun bs : List ℕ) → so field begun
-      → FieldFirst d (begun ++ b ∷ bs) field (b ∷ bs))
-      → (b ≡ d.delimiter → ⊥) → ((after rest : List ℕ) → EndsHere d.ends (b ∷ after) rest → ⊥)
-      → ((more : List ℕ) → WhyNot d.quote (b ∷ more) why)
+      → StartsWithField d (begun ++ b ∷ bs) field (b ∷ bs))
+      → (b ≡ d.delimiter → ⊥) → ((after rest : List ℕ) → RecordEnds d.ends (b ∷ after) rest → ⊥)
+      → ((more : List ℕ) → NoEndReason d.quote (b ∷ more) why)
       → (text fields : ℕ) (front bs : List ℕ) → Passed d so text fields front
       → IsRefused d (front ++ b ∷ bs) (record { offset = length front; why = why })
   stuck why so first not ends whynot text fields front bs it =
@@ -264,7 +266,7 @@ module _ (d : Dialect) (apart : IsApart d.delimiter d.quote) (b : ℕ) where
       (omega (arith, length-append front (b ∷ bs)))
 
   pub first_field : (b ≡ d.quote → ⊥) → (IsPlain d b → ⊥) → (field begun bs : List ℕ)
-      → IsFieldPrefix d place.Field field begun → FieldFirst d (begun ++ b ∷ bs) field (b ∷ bs)
+      → IsFieldPrefix d place.Field field begun → StartsWithField d (begun ++ b ∷ bs) field (b ∷ bs)
   first_field other plain field begun bs (none, nothing) = inr (
     ap (λ l. l ++ b ∷ bs) (nothing ∙ sym none),
     rw none (All-nil (IsPlain d)),
@@ -278,7 +280,7 @@ module _ (d : Dialect) (apart : IsApart d.delimiter d.quote) (b : ℕ) where
   plain_first (c ∷ field) rest all some = (All-head (IsPlain d) c field all).0
 
   pub first_plain : (IsPlain d b → ⊥) → (field begun bs : List ℕ)
-      → IsFieldPrefix d place.Plain field begun → FieldFirst d (begun ++ b ∷ bs) field (b ∷ bs)
+      → IsFieldPrefix d place.Plain field begun → StartsWithField d (begun ++ b ∷ bs) field (b ∷ bs)
   first_plain plain field begun bs (same, all, some) = inr (
     ap (λ l. l ++ b ∷ bs) same,
     all,
@@ -287,7 +289,7 @@ module _ (d : Dialect) (apart : IsApart d.delimiter d.quote) (b : ℕ) where
   )
 
   pub first_quote : (b ≡ d.quote → ⊥) → (field begun bs : List ℕ)
-      → IsFieldPrefix d place.Quote field begun → FieldFirst d (begun ++ b ∷ bs) field (b ∷ bs)
+      → IsFieldPrefix d place.Quote field begun → StartsWithField d (begun ++ b ∷ bs) field (b ∷ bs)
   first_quote other field begun bs is = inl (
     doubled d.quote field ++ (d.quote ∷ (b ∷ bs)),
     ap (λ l. l ++ b ∷ bs) is ∙ quoted_behind d.quote field (b ∷ bs),

@@ -6,11 +6,12 @@ use Rattle.std.specs.Prelude.{Err, None, Ok, Option, Result, Some, false, true}
 use Rattle.std.specs.Io.KnownBytes.{Consumes, IsAtEnd, prepend_known}
 use Rattle.std.proofs.Common.{◌∙◌, ap, append_assoc, append-nil, arith, drop_at, inl, inr, refl}
 use Rattle.std.proofs.Common.{length-append, sym}
-use Rattle.format_csv_records.proofs.One.{Splits, fields_one, fields_split, refused_none}
-use Rattle.format_csv_records.specs.Buffers.{IsForGood}
+use Rattle.format_csv_records.proofs.One.{Splits, fields_unique, refused_is_no_record}
+use Rattle.format_csv_records.proofs.One.{rest_of_fields_is_suffix}
+use Rattle.format_csv_records.specs.Buffers.{IsRecordForGood}
 use Rattle.format_csv_records.specs.Dialects.{IsRecord}
 use Rattle.format_csv_records.specs.Early.{IsPrefixOfNone}
-use Rattle.format_csv_records.specs.Refused.{IsRefused, Lacks, ReadsRecord}
+use Rattle.format_csv_records.specs.Refused.{IsRefused, LacksForRecord, ReadsRecord}
 use Rattle.format_csv_records.specs.declared.dialect.Dialect.{Dialect}
 use Rattle.format_csv_records.specs.declared.read.RecordError.{RecordError}
 use Rattle.format_csv_records.specs.declared.read.InvalidRecord.{InvalidRecord}
@@ -18,8 +19,8 @@ use Rattle.format_csv_records.specs.declared.read.Reason.{Reason}
 use Rattle.format_csv_records.specs.declared.read.Reason.TheVariants.{QuoteInField}
 use Rattle.format_csv_records.specs.declared.read.Reason.TheVariants.{ByteBehindQuote}
 use Rattle.format_csv_records.specs.declared.read.Reason.TheVariants.{OpenQuote, WrongLineEnd}
-use Rattle.format_csv_records.specs.Finds.{IsOfReader, IsSmall, StartsForGood, WantsMore}
-use Rattle.format_csv_records.specs.Held.{Grew}
+use Rattle.format_csv_records.specs.Finds.{IsBoundedCapacity, IsOfReader, StartsForGood, WantsMore}
+use Rattle.format_csv_records.specs.Held.{GrewByReading}
 use Rattle.format_csv_records.specs.Results.{IsAnswer, IsOfAll, IsTaken, Reads, ReadsOfAll}
 use Rattle.format_csv_records.specs.Results.{offset_after}
 use Rattle.format_csv_records.specs.declared.error.ReadError.{ReadError}
@@ -31,7 +32,7 @@ use Rattle.format_csv_records.specs.declared.error.ReadError.TheVariants.{Invali
 pub read_split : (d : Dialect) (bytes : List ℕ) (result : Result Bool RecordError)
     (fields : List (List ℕ)) (rest : List ℕ) → ReadsRecord d bytes result fields rest
     → Splits bytes rest
-read_split d bytes (Ok true) fields rest it = fields_split d fields bytes rest it.1
+read_split d bytes (Ok true) fields rest it = rest_of_fields_is_suffix d fields bytes rest it.1
 read_split d bytes (Ok false) fields rest (none, over, f) =
     record { front = []; is = none ∙ sym over }
 read_split d bytes (Err e) fields rest (why, same, f) = record { front = []; is = sym same }
@@ -61,7 +62,7 @@ ended d bytes before more fields e on never =
     never more fields [] (rw (e ∙ append-nil before) on)
 
 lacks_on_more_bytes : (d : Dialect) (why : Reason) (before more : List ℕ) (b : ℕ) (bs ys : List ℕ)
-    → Lacks d why before more (b ∷ bs) → Lacks d why before more (b ∷ (bs ++ ys))
+    → LacksForRecord d why before more (b ∷ bs) → LacksForRecord d why before more (b ∷ (bs ++ ys))
 lacks_on_more_bytes d QuoteInField before more b bs ys it = it
 lacks_on_more_bytes d ByteBehindQuote before more b bs ys it = it
 lacks_on_more_bytes d WrongLineEnd before more b bs ys it = it
@@ -86,10 +87,10 @@ refused_on d bytes ys at (before, b ∷ bs, more, fs, e, size, on, lack, none) n
 -- ---- the result of a call
 
 one_for_good : (d : Dialect) (bytes : List ℕ) (fields : List (List ℕ)) (rest : List ℕ)
-    → StartsForGood d bytes → IsRecord d bytes fields rest → IsForGood d bytes fields rest
+    → StartsForGood d bytes → IsRecord d bytes fields rest → IsRecordForGood d bytes fields rest
 one_for_good d bytes fields rest (others, left, good) it =
     let now = rw (append-nil bytes) at (good []) in
-    let (same, is) = fields_one d d.apart fields others bytes rest (left ++ []) it.1 now.1 in
+    let (same, is) = fields_unique d d.apart fields others bytes rest (left ++ []) it.1 now.1 in
     rw (is ∙ append-nil left, same) good
 
 some_for_good : (d : Dialect) (bytes : List ℕ) → StartsForGood d bytes
@@ -112,7 +113,7 @@ answer_taken d bytes IsOver start (Ok false) fields rest (inr over) (none, l, f)
 answer_taken d bytes IsOver start (Err (Invalid fault)) fields rest (inl good)
     ((at, refusal, is), l, f) =
     let (fs, left, it) = some_for_good d bytes good in
-    absurd (refused_none d bytes at fs left refusal it)
+    absurd (refused_is_no_record d bytes at fs left refusal it)
 answer_taken d bytes IsOver start (Err (Invalid fault)) fields rest (inr over)
     ((at, refusal, is), l, f) = ((at, refusal, is, inr over), l, f)
 answer_taken d bytes IsOver start (Err (Failed e)) fields rest either it = absurd it
@@ -173,7 +174,8 @@ failed d mid IsOver start fields (Failed error) it wants empty = (it, wants, ref
 failed d mid IsOver start fields OutOfMemory it wants empty = (refl, empty)
 
 pub reads : (d : Dialect) (old mid : List ℕ) (before after : Option (List ℕ)) (start size room : ℕ)
-    (fields : List (List ℕ)) (grew : Grew old mid before after) → IsSmall d size room mid
+    (fields : List (List ℕ)) (grew : GrewByReading old mid before after)
+    → IsBoundedCapacity d size room mid
     → (new : List ℕ) (end : ℕ) (result : Result Bool ReadError)
     → IsAnswer d mid (IsAtEnd after) start result fields new
     → end ≡ offset_after start (length mid - length new)

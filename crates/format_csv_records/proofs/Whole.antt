@@ -4,21 +4,20 @@ use Rattle.std.proofs.Common.{refl, sym, ap, subst, inl, inr, ◌∙◌, arith, 
 use Rattle.std.proofs.Common.{length-append}
 use Rattle.std.proofs.lemmas.List.{append-nil}
 use Rattle.format_csv_records.specs.Apart.{IsApart}
-use Rattle.format_csv_records.specs.Dialects.{AreFields, EndsHere, IsFieldText, IsLineEnd, IsPlain}
-use Rattle.format_csv_records.specs.Dialects.{IsRecord, doubled}
-use Rattle.format_csv_records.specs.Parts.{Done, EndsNowhere, FieldFirst}
-use Rattle.format_csv_records.specs.Parts.{NotFirst, OpenFirst, WhyNot}
-use Rattle.format_csv_records.specs.Refused.{EndsAField, IsRefused, Lacks, NoneWith}
+use Rattle.format_csv_records.specs.Dialects.{AreFields, IsFieldText, IsLineEnd, IsPlain, IsRecord}
+use Rattle.format_csv_records.specs.Dialects.{RecordEnds, doubled}
+use Rattle.format_csv_records.specs.Parts.{DelimitedFields, EndsNowhere, NoEndReason, NotFirst}
+use Rattle.format_csv_records.specs.Parts.{StartsWithField, StartsWithOpenQuote}
+use Rattle.format_csv_records.specs.Refused.{EndsAField, IsRefused, LacksForRecord, NoRecordWith}
 use Rattle.format_csv_records.specs.declared.dialect.Dialect.{Dialect}
 use Rattle.format_csv_records.specs.declared.dialect.LineEnds.{LineEnds}
 use Rattle.format_csv_records.specs.declared.read.Reason.{Reason}
 use Rattle.format_csv_records.specs.declared.read.Reason.TheVariants.{QuoteInField}
 use Rattle.format_csv_records.specs.declared.read.Reason.TheVariants.{ByteBehindQuote}
 use Rattle.format_csv_records.specs.declared.read.Reason.TheVariants.{OpenQuote, WrongLineEnd}
-use Rattle.format_csv_records.proofs.Alone.{doubled_behind, line_end_is_not_empty, ends_apart}
-use Rattle.format_csv_records.proofs.Alone.{ends_stop}
-use Rattle.format_csv_records.proofs.Alone.{field_apart, lone_return, open_apart, quoted_behind}
-use Rattle.format_csv_records.proofs.Alone.{same_others, text_first}
+use Rattle.format_csv_records.proofs.Alone.{doubled_append_run, line_end_is_not_empty, ends_apart}
+use Rattle.format_csv_records.proofs.Alone.{ends_stop, first_field_unique, lone_return, open_apart}
+use Rattle.format_csv_records.proofs.Alone.{quoted_behind, tails_equal, text_first}
 use Rattle.format_csv_records.proofs.Early.{line_end_of}
 
 -- ---- the text of the first field
@@ -28,14 +27,14 @@ pub record FirstText (d : Dialect) (bytes field left : List ℕ) : Type 0 where
   pub is_text : IsFieldText d field text
   pub split : bytes ≡ text ++ left
   pub again : (b : ℕ) (bs after : List ℕ) → left ≡ b ∷ bs
-      → FieldFirst d (text ++ (b ∷ after)) field (b ∷ after)
+      → StartsWithField d (text ++ (b ∷ after)) field (b ∷ after)
 
 front_not : (quote b : ℕ) (field xs ys : List ℕ) → NotFirst (λ c. c ≡ quote) (field ++ (b ∷ xs))
     → NotFirst (λ c. c ≡ quote) (field ++ (b ∷ ys))
 front_not quote b [] xs ys not = not
 front_not quote b (c ∷ field) xs ys not = not
 
-pub first_text : (d : Dialect) (bytes field left : List ℕ) → FieldFirst d bytes field left
+pub first_text : (d : Dialect) (bytes field left : List ℕ) → StartsWithField d bytes field left
     → FirstText d bytes field left
 first_text d bytes field left (inl (here, e, (f, not))) = record {
   text = d.quote ∷ (doubled d.quote field ++ d.quote ∷ []);
@@ -75,9 +74,10 @@ fields_more d field text here (next ∷ fields) rest t it = (text, here, t, refl
 
 -- after fields with their delimiters
 pub done_fields : (d : Dialect) (done : List (List ℕ)) (before here : List ℕ)
-    (fields : List (List ℕ)) (rest : List ℕ) → Done d done before → AreFields d here fields rest
+    (fields : List (List ℕ)) (rest : List ℕ) → DelimitedFields d done before
+    → AreFields d here fields rest
     → AreFields d (before ++ here) (done ++ fields) rest
-unfolding Done
+unfolding DelimitedFields
 done_fields d [] before here fields rest e it = rw e it
 done_fields d (field ∷ done) before here fields rest (text, more, t, e, others) it =
     rw (e, append_assoc text (d.delimiter ∷ more) here)
@@ -86,9 +86,9 @@ done_fields d (field ∷ done) before here fields rest (text, more, t, e, others
 
 -- one field more
 pub done_more : (d : Dialect) (done : List (List ℕ)) (before field text : List ℕ)
-    → Done d done before → IsFieldText d field text
-    → Done d (done ++ field ∷ []) (before ++ (text ++ (d.delimiter ∷ [])))
-unfolding Done
+    → DelimitedFields d done before → IsFieldText d field text
+    → DelimitedFields d (done ++ field ∷ []) (before ++ (text ++ (d.delimiter ∷ [])))
+unfolding DelimitedFields
 done_more d [] before field text e t =
     (text, [], t, ap (λ l. l ++ (text ++ (d.delimiter ∷ []))) e, refl)
 done_more d (other ∷ done) before field text (front, more, u, e, others) t = (
@@ -102,7 +102,7 @@ done_more d (other ∷ done) before field text (front, more, u, e, others) t = (
 
 -- the last field
 pub last_field : (d : Dialect) (field text behind rest : List ℕ) → IsFieldText d field text
-    → EndsHere d.ends behind rest → AreFields d (text ++ behind) (field ∷ []) rest
+    → RecordEnds d.ends behind rest → AreFields d (text ++ behind) (field ∷ []) rest
 unfolding AreFields
 last_field d field text behind rest t ends = (text, behind, t, refl, ends)
 
@@ -115,8 +115,8 @@ pub record FieldsAfterFirst (d : Dialect) (bytes : List ℕ) (fields : List (Lis
   pub others : List (List ℕ)
   pub behind : List ℕ
   pub all : fields ≡ field ∷ others
-  pub first : FieldFirst d bytes field behind
-  pub way : ((others ≡ []) × EndsHere d.ends behind rest) ⊎ ((more : List ℕ)
+  pub first : StartsWithField d bytes field behind
+  pub way : ((others ≡ []) × RecordEnds d.ends behind rest) ⊎ ((more : List ℕ)
       × (behind ≡ d.delimiter ∷ more) × AreFields d more others rest)
 
 pub behind_first : (d : Dialect) → IsApart d.delimiter d.quote → (bytes : List ℕ)
@@ -143,16 +143,17 @@ behind_first d apart bytes (field ∷ (next ∷ fields)) rest (text, more, t, e,
 
 -- fields with their delimiters are followed by the other fields of the record
 done_apart : (d : Dialect) → IsApart d.delimiter d.quote → (done : List (List ℕ))
-    (before here : List ℕ) (fields : List (List ℕ)) (rest : List ℕ) → Done d done before
+    (before here : List ℕ) (fields : List (List ℕ)) (rest : List ℕ) → DelimitedFields d done before
     → AreFields d (before ++ here) fields rest
     → (others : List (List ℕ)) × AreFields d here others rest
-unfolding Done
+unfolding DelimitedFields
 done_apart d apart [] before here fields rest e it = (fields, rw e at it)
 done_apart d apart (field ∷ done) before here fields rest (text, more, t, e, others) it =
     let b = behind_first d apart (before ++ here) fields rest it in
     let f = text_first d apart (before ++ here) field text (d.delimiter ∷ (more ++ here)) t
     (ap (λ l. l ++ here) e ∙ append_assoc text (d.delimiter ∷ more) here) (inl refl) in
-    let (same, left) = field_apart d (before ++ here) field (d.delimiter ∷ (more ++ here)) b.field
+    let (same, left) =
+    first_field_unique d (before ++ here) field (d.delimiter ∷ (more ++ here)) b.field
     b.behind f b.first in
     elim b.way [
       | inl (none, ends) ↦
@@ -160,17 +161,17 @@ done_apart d apart (field ∷ done) before here fields rest (text, more, t, e, o
       | inr (further, is, them) ↦
           let P : List ℕ → Type 0 = λ l. AreFields d l b.others rest in
           done_apart d apart done more here b.others rest others
-          (subst P (sym (same_others (left ∙ is))) them)
+          (subst P (sym (tails_equal (left ∙ is))) them)
     ]
 
 -- there is no record if its field is followed neither by a delimiter nor by a line ending
 none_behind : (d : Dialect) → IsApart d.delimiter d.quote → (bytes field left : List ℕ)
-    (fields : List (List ℕ)) (rest : List ℕ) → FieldFirst d bytes field left
-    → NotFirst (λ b. b ≡ d.delimiter) left → (EndsHere d.ends left rest → ⊥)
+    (fields : List (List ℕ)) (rest : List ℕ) → StartsWithField d bytes field left
+    → NotFirst (λ b. b ≡ d.delimiter) left → (RecordEnds d.ends left rest → ⊥)
     → AreFields d bytes fields rest → ⊥
 none_behind d apart bytes field left fields rest f not ends it =
     let b = behind_first d apart bytes fields rest it in
-    let (same, e) = field_apart d bytes field left b.field b.behind f b.first in
+    let (same, e) = first_field_unique d bytes field left b.field b.behind f b.first in
     let P : List ℕ → Type 0 = λ l. NotFirst (λ c. c ≡ d.delimiter) l in
     elim b.way [
       | inl (none, at) ↦ ends (rw e at)
@@ -178,7 +179,8 @@ none_behind d apart bytes field left fields rest f not ends it =
     ]
 
 none_open : (d : Dialect) → IsApart d.delimiter d.quote → (bytes : List ℕ)
-    (fields : List (List ℕ)) (rest : List ℕ) → OpenFirst d bytes → AreFields d bytes fields rest
+    (fields : List (List ℕ)) (rest : List ℕ) → StartsWithOpenQuote d bytes
+    → AreFields d bytes fields rest
     → ⊥
 none_open d apart bytes fields rest unclosed it =
     let b = behind_first d apart bytes fields rest it in
@@ -192,7 +194,7 @@ pub record Stuck (ends : LineEnds) (left : List ℕ) (begun : ℕ) : Type 0 wher
   pub bs : List ℕ
   pub is : left ≡ b ∷ bs
   pub ends_not : ((begun ≡ 0)
-      × ((after : List ℕ) (rest : List ℕ) → EndsHere ends (b ∷ after) rest → ⊥))
+      × ((after : List ℕ) (rest : List ℕ) → RecordEnds ends (b ∷ after) rest → ⊥))
       ⊎ ((begun ≡ 1) × (b ≡ 13) × IsLineEnd ends (13 ∷ 10 ∷ []) × NotFirst (λ c. c ≡ 10) bs)
 
 stuck : (ends : LineEnds) (left : List ℕ) (begun : ℕ) → EndsNowhere ends left begun
@@ -200,9 +202,9 @@ stuck : (ends : LineEnds) (left : List ℕ) (begun : ℕ) → EndsNowhere ends l
 stuck ends [] begun it = absurd it
 stuck ends (b ∷ bs) begun it = record { b = b; bs = bs; is = refl; ends_not = it }
 
-lacks : (d : Dialect) (why : Reason) (before more left : List ℕ) → WhyNot d.quote left why
+lacks : (d : Dialect) (why : Reason) (before more left : List ℕ) → NoEndReason d.quote left why
     → NotFirst (λ b. b ≡ d.delimiter) left → EndsAField d before → IsLineEnd d.ends more
-    → Lacks d why before more left
+    → LacksForRecord d why before more left
 lacks d QuoteInField before more left it not ends is = (is, it, ends)
 lacks d WrongLineEnd before more left it not ends is = inl (is, it)
 lacks d OpenQuote before more left it not ends is = absurd it
@@ -211,8 +213,8 @@ lacks d ByteBehindQuote before more (b ∷ left) (other, unbroken) not ends is =
     (is, (other, (not, (λ e. unbroken (inl e), λ e. unbroken (inr e)))), ends)
 
 lacks_feed : (d : Dialect) → IsApart d.delimiter d.quote → (why : Reason)
-    (before back left : List ℕ) → WhyNot d.quote (13 ∷ left) why
-    → Lacks d why (before ++ (13 ∷ [])) (10 ∷ []) back
+    (before back left : List ℕ) → NoEndReason d.quote (13 ∷ left) why
+    → LacksForRecord d why (before ++ (13 ∷ [])) (10 ∷ []) back
 lacks_feed d apart QuoteInField before back left it = absurd (apart.quote_stays.0 (sym it))
 lacks_feed d apart WrongLineEnd before back left it = inr (refl, (before, refl))
 lacks_feed d apart OpenQuote before back left it = absurd it
@@ -224,16 +226,16 @@ lacks_feed d apart ByteBehindQuote before back left (other, unbroken) =
 pub record SoFar (d : Dialect) (bytes rest : List ℕ) (fields : List (List ℕ)) : Type 0 where
   pub before : List ℕ
   pub whole : bytes ≡ before ++ rest
-  pub texts : Done d fields before
+  pub texts : DelimitedFields d fields before
 
 pub so_far_none : (d : Dialect) (bytes : List ℕ) (fields : List (List ℕ)) → fields ≡ []
     → SoFar d bytes bytes fields
-unfolding Done
+unfolding DelimitedFields
 so_far_none d bytes fields e = record { before = []; whole = refl; texts = rw e refl }
 
 module _ (d : Dialect) (apart : IsApart d.delimiter d.quote) (bytes rest : List ℕ)
     (fields : List (List ℕ)) (it : SoFar d bytes rest fields) where
-  module _ (field left : List ℕ) (f : FieldFirst d rest field left) where
+  module _ (field left : List ℕ) (f : StartsWithField d rest field left) where
     -- a delimiter after the field
     pub so_far_more : (next : List ℕ) (new : List (List ℕ)) → new ≡ fields ++ field ∷ []
         → left ≡ d.delimiter ∷ drop 1 left → next ≡ drop 1 left → SoFar d bytes next new
@@ -249,7 +251,7 @@ module _ (d : Dialect) (apart : IsApart d.delimiter d.quote) (bytes rest : List 
         }
 
     -- with what ends it after the field
-    ended : (behind end : List ℕ) → EndsHere d.ends behind end
+    ended : (behind end : List ℕ) → RecordEnds d.ends behind end
         → AreFields d (it.before ++ ((first_text d rest field left f).text ++ behind))
         (fields ++ field ∷ []) end
     ended behind end ends =
@@ -259,14 +261,14 @@ module _ (d : Dialect) (apart : IsApart d.delimiter d.quote) (bytes rest : List 
 
     -- the end after the field
     pub so_far_ends : (end : List ℕ) (new : List (List ℕ)) → new ≡ fields ++ field ∷ []
-        → EndsHere d.ends left end → AreFields d bytes new end
+        → RecordEnds d.ends left end → AreFields d bytes new end
     so_far_ends end new e ends =
         let t = first_text d rest field left f in
         rw (e, it.whole ∙ ap (λ l. it.before ++ l) t.split) (ended left end ends)
 
     -- a record with `more` after its last field
     closes : (before more : List ℕ) → before ≡ it.before ++ (first_text d rest field left f).text
-        → EndsHere d.ends more [] → 0 < length more
+        → RecordEnds d.ends more [] → 0 < length more
         → IsRecord d (before ++ more) (fields ++ field ∷ []) []
     closes before more e ends some =
         let t = first_text d rest field left f in (
@@ -284,7 +286,7 @@ module _ (d : Dialect) (apart : IsApart d.delimiter d.quote) (bytes rest : List 
 
     -- no record continues with this byte
     goes_not : (b : ℕ) (bs after : List ℕ) → left ≡ b ∷ bs → (b ≡ d.delimiter → ⊥)
-        → ((end : List ℕ) → EndsHere d.ends (b ∷ after) end → ⊥) → (before : List ℕ)
+        → ((end : List ℕ) → RecordEnds d.ends (b ∷ after) end → ⊥) → (before : List ℕ)
         → before ≡ it.before ++ (first_text d rest field left f).text
         → (all : List (List ℕ)) (end : List ℕ) → IsRecord d (before ++ (b ∷ after)) all end → ⊥
     goes_not b bs after is not ends before e all end (some, them) =
@@ -297,7 +299,7 @@ module _ (d : Dialect) (apart : IsApart d.delimiter d.quote) (bytes rest : List 
     -- no record continues after a carriage return without a line feed
     none_return : (bs : List ℕ) → left ≡ 13 ∷ bs → NotFirst (λ c. c ≡ 10) bs → (before : List ℕ)
         → before ≡ it.before ++ (first_text d rest field left f).text
-        → NoneWith d (before ++ (13 ∷ [])) bs
+        → NoRecordWith d (before ++ (13 ∷ [])) bs
     none_return [] is not before e =
         λ all end them. goes_not 13 [] [] is (λ g. apart.delimiter_stays.0 (sym g))
         (λ o. lone_return d.ends [] o tt) before e all end them
@@ -307,7 +309,7 @@ module _ (d : Dialect) (apart : IsApart d.delimiter d.quote) (bytes rest : List 
         all end (rw (append_assoc before (13 ∷ []) (c ∷ after)) at them)
 
     pub so_far_bad : (begun offset : ℕ) (why : Reason) → NotFirst (λ b. b ≡ d.delimiter) left
-        → EndsNowhere d.ends left begun → WhyNot d.quote left why
+        → EndsNowhere d.ends left begun → NoEndReason d.quote left why
         → offset ≡ (length bytes - length left) + begun
         → IsRefused d bytes (record { offset = offset; why = why })
     so_far_bad begun offset why not nowhere whynot at =
@@ -321,7 +323,7 @@ module _ (d : Dialect) (apart : IsApart d.delimiter d.quote) (bytes rest : List 
         elim s.ends_not [
           | inl (none, ends) ↦
               let z = line_end_of d.ends in
-              let B : List ℕ → Type 0 = λ l. NoneWith d before l in (
+              let B : List ℕ → Type 0 = λ l. NoRecordWith d before l in (
                 before,
                 left,
                 z.end,
@@ -349,13 +351,13 @@ module _ (d : Dialect) (apart : IsApart d.delimiter d.quote) (bytes rest : List 
               )
         ]
 
-  pub so_far_open : OpenFirst d rest
+  pub so_far_open : StartsWithOpenQuote d rest
       → IsRefused d bytes (record { offset = length bytes; why = OpenQuote })
   so_far_open (here, e, (done, run, g, all)) =
       let q = d.quote in
       let text = q ∷ (doubled q (done ++ run) ++ q ∷ []) in
       let same : rest ++ q ∷ [] ≡ text =
-      ap (λ l. l ++ q ∷ []) (e ∙ ap (λ l. q ∷ l) (g ∙ sym (doubled_behind q done run all))) in
+      ap (λ l. l ++ q ∷ []) (e ∙ ap (λ l. q ∷ l) (g ∙ sym (doubled_append_run q done run all))) in
       let whole : bytes ++ q ∷ [] ≡ it.before ++ (text ++ []) =
       ap (λ l. l ++ q ∷ []) it.whole ∙ append_assoc it.before rest (q ∷ [])
       ∙ ap (λ l. it.before ++ l) (same ∙ sym (append-nil text)) in (

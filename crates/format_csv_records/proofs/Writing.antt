@@ -10,18 +10,17 @@ use Rattle.std.proofs.lemmas.List.{append-nil, drop_more, map_more}
 use Rattle.std.proofs.lemmas.List.{take-append-drop, take-append-le, take_all}
 use Rattle.format_csv_records.specs.Dialects.{IsFieldText, IsLineEnd}
 use Rattle.format_csv_records.specs.Dialects.{doubled}
-use Rattle.format_csv_records.specs.Parts.{Done, IsOther, SoMany}
-use Rattle.format_csv_records.specs.Written.{Extends, IsLast, IsLastOf, IsWritten, ReadsBack}
-use Rattle.format_csv_records.specs.Written.{Writes, Wrote, bytes_of, written_end}
+use Rattle.format_csv_records.specs.Parts.{DelimitedFields, IsNotQuote, LongestPrefixLength}
+use Rattle.format_csv_records.specs.Written.{Extends, IsLastOf, IsLastWritten, IsWritten, ReadsBack}
+use Rattle.format_csv_records.specs.Written.{Writes, WrittenFields, bytes_of, written_end}
 use Rattle.format_csv_records.specs.declared.dialect.Dialect.{Dialect}
 use Rattle.format_csv_records.specs.declared.dialect.LineEnds.{LineEnds}
 use Rattle.format_csv_records.specs.declared.dialect.LineEnds.TheVariants.{CrLf, Lf, Either}
-use Rattle.format_csv_records.proofs.Alone.{doubled_behind, doubled_none, doubled_two}
-use Rattle.format_csv_records.proofs.Alone.{line_end_is_not_empty}
-use Rattle.format_csv_records.proofs.Alone.{take_quote}
+use Rattle.format_csv_records.proofs.Alone.{doubled_append_run, doubled_nil, doubled_two}
+use Rattle.format_csv_records.proofs.Alone.{line_end_is_not_empty, take_quote}
 use Rattle.format_csv_records.proofs.Whole.{done_fields, last_field}
 
-pub fewer_are_not_all : (these : ℕ → Type 0) (xs : List ℕ) (n : ℕ) → SoMany these xs n
+pub fewer_are_not_all : (these : ℕ → Type 0) (xs : List ℕ) (n : ℕ) → LongestPrefixLength these xs n
     → (n ≡ length xs → ⊥) → All these xs → ⊥
 fewer_are_not_all these xs n (within, first, not) some all =
     let less : n < length xs = omega arith in
@@ -29,7 +28,8 @@ fewer_are_not_all these xs n (within, first, not) some all =
 
 -- a run and its quote more
 pub write_more : (quote : ℕ) (field rest base out : List ℕ) (n : ℕ) (done : List ℕ)
-    → field ≡ done ++ rest → out ≡ base ++ doubled quote done → SoMany (IsOther quote) rest n
+    → field ≡ done ++ rest → out ≡ base ++ doubled quote done
+    → LongestPrefixLength (IsNotQuote quote) rest n
     → (n ≡ length rest → ⊥) → (next added mid new : List ℕ) → next ≡ drop (n + 1) rest
     → added ≡ take (n + 1) rest → mid ≡ out ++ added → new ≡ mid ++ quote ∷ []
     → (all : List ℕ) × (field ≡ all ++ next) × (new ≡ base ++ doubled quote all)
@@ -52,13 +52,14 @@ write_more quote field rest base out n done e o run some next added mid new is a
 
 -- the last run
 pub write_end : (quote : ℕ) (field rest base out : List ℕ) (n : ℕ) (done : List ℕ)
-    → field ≡ done ++ rest → out ≡ base ++ doubled quote done → SoMany (IsOther quote) rest n
+    → field ≡ done ++ rest → out ≡ base ++ doubled quote done
+    → LongestPrefixLength (IsNotQuote quote) rest n
     → n ≡ length rest → (mid new : List ℕ) → mid ≡ out ++ rest → new ≡ mid ++ quote ∷ []
     → new ≡ base ++ (doubled quote field ++ quote ∷ [])
 write_end quote field rest base out n done e o run is mid new m w =
     let text : doubled quote field ≡ doubled quote done ++ rest =
     ap (λ l. doubled quote l) e
-    ∙ doubled_behind quote done rest (rw (take_all n rest (omega arith)) at run.1) in
+    ∙ doubled_append_run quote done rest (rw (take_all n rest (omega arith)) at run.1) in
     let tidy : ((base ++ doubled quote done) ++ rest) ++ quote ∷ []
     ≡ base ++ ((doubled quote done ++ rest) ++ quote ∷ []) = simp append_assoc in
     w ∙ ap (λ l. l ++ quote ∷ []) (m ∙ ap (λ l. l ++ rest) o) ∙ tidy
@@ -66,9 +67,9 @@ write_end quote field rest base out n done e o run is mid new m w =
 
 -- a field more
 pub wrote_more : (d : Dialect) (fields : List (List ℕ)) (before field text : List ℕ)
-    → Wrote d fields before → IsWritten d field text
-    → Wrote d (fields ++ field ∷ []) (before ++ (text ++ (d.delimiter ∷ [])))
-unfolding Wrote
+    → WrittenFields d fields before → IsWritten d field text
+    → WrittenFields d (fields ++ field ∷ []) (before ++ (text ++ (d.delimiter ∷ [])))
+unfolding WrittenFields
 wrote_more d [] before field text e t =
     (text, [], t, ap (λ l. l ++ (text ++ (d.delimiter ∷ []))) e, refl)
 wrote_more d (other ∷ fields) before field text (front, more, u, e, others) t = (
@@ -86,21 +87,21 @@ bytes_more fields i d less = map_more (λ (f : Bor (List ℕ)). f.now) fields i 
 
 -- ---- what was there stays
 
-pub same_text_extends : (old new : List ℕ) → new ≡ old → Extends old new
-same_text_extends old new e = ([], e ∙ sym (append-nil old))
+pub extends_refl : (old new : List ℕ) → new ≡ old → Extends old new
+extends_refl old new e = ([], e ∙ sym (append-nil old))
 
-pub extends_in_turn : (old mid new : List ℕ) → Extends old mid → Extends mid new → Extends old new
-extends_in_turn old mid new (more, e) (others, f) =
+pub extends_trans : (old mid new : List ℕ) → Extends old mid → Extends mid new → Extends old new
+extends_trans old mid new (more, e) (others, f) =
     (more ++ others, f ∙ ap (λ l. l ++ others) e ∙ append_assoc old more others)
 
-pub kept_after : (old more mid new : List ℕ) → mid ≡ old ++ more → Extends mid new
+pub extends_after_append : (old more mid new : List ℕ) → mid ≡ old ++ more → Extends mid new
     → Extends old new
-kept_after old more mid new e is = extends_in_turn old mid new (more, e) is
+extends_after_append old more mid new e is = extends_trans old mid new (more, e) is
 
 pub kept_added : {E : Type 0} (r : Result (Unit {0}) E) (old new more : List ℕ)
     → new ≡ (if is_ok r then old ++ more else old) → Extends old new
 kept_added (Ok u) old new more e = (more, e)
-kept_added (Err x) old new more e = same_text_extends old new e
+kept_added (Err x) old new more e = extends_refl old new e
 
 pub front_of_extension : (old new end : List ℕ) (n : ℕ) → Extends old new → n ≡ length old
     → end ≡ take n new → end ≡ old
@@ -115,14 +116,15 @@ is_text d field text (inl plain) = inr plain
 is_text d field text (inr (is, not)) = inl is
 
 last_is_text : (d : Dialect) (others : List (List ℕ)) (last text : List ℕ)
-    → IsLast d others last text → IsFieldText d last text
+    → IsLastWritten d others last text → IsFieldText d last text
 last_is_text d others last text (inl (alone, none, is)) =
-    rw none (inl (is ∙ ap (λ l. d.quote ∷ (l ++ d.quote ∷ [])) (sym (doubled_none d.quote))))
+    rw none (inl (is ∙ ap (λ l. d.quote ∷ (l ++ d.quote ∷ [])) (sym (doubled_nil d.quote))))
 last_is_text d others last text (inr (some, t)) = is_text d last text t
 
-wrote_done : (d : Dialect) (fields : List (List ℕ)) (before : List ℕ) → Wrote d fields before
-    → Done d fields before
-unfolding Wrote Done
+wrote_done : (d : Dialect) (fields : List (List ℕ)) (before : List ℕ)
+    → WrittenFields d fields before
+    → DelimitedFields d fields before
+unfolding WrittenFields DelimitedFields
 wrote_done d [] before e = e
 wrote_done d (field ∷ fields) before (text, more, t, e, others) =
     (text, more, is_text d field text t, e, wrote_done d fields more others)
@@ -161,7 +163,7 @@ reads_back d fields old new it =
 -- the text of the last field, with a test for whether it is the only one
 pub last_by : (d : Dialect) (others : List (Bor (List ℕ))) (alone : Bool) (last text : List ℕ)
     → MatchBool alone (others ≡ []) (others ≡ [] → ⊥) → IsLastOf d alone last text
-    → IsLast d (bytes_of others) last text
+    → IsLastWritten d (bytes_of others) last text
 last_by d others true last text told (inl (is, none, t)) =
     inl (ap (λ l. bytes_of l) told, none, t)
 last_by d others false last text told (inl (is, none, t)) = cc

@@ -16,8 +16,8 @@ abbrev pub IsBreak : ℕ → Type 0
 IsBreak b = (b ≡ 13) ⊎ (b ≡ 10)
 
 -- The reason why two bytes do not make a dialect; the first one that applies.
-abbrev pub WhyNone : ℕ → ℕ → DialectError → Type 0
-WhyNone delimiter quote DelimiterIsQuote = delimiter ≡ quote
-WhyNone delimiter quote DelimiterEndsLines = (delimiter ≡ quote → ⊥) × IsBreak delimiter
-WhyNone delimiter quote QuoteEndsLines = (delimiter ≡ quote → ⊥) × (IsBreak delimiter → ⊥)
+abbrev pub DialectReason : ℕ → ℕ → DialectError → Type 0
+DialectReason delimiter quote DelimiterIsQuote = delimiter ≡ quote
+DialectReason delimiter quote DelimiterEndsLines = (delimiter ≡ quote → ⊥) × IsBreak delimiter
+DialectReason delimiter quote QuoteEndsLines = (delimiter ≡ quote → ⊥) × (IsBreak delimiter → ⊥)
     × IsBreak quote

@@ -19,12 +19,14 @@ places_of made offset (field ∷ fields) =
     made offset (length field) ∷ places_of made (offset + length field) fields
 
 -- Whatever comes after the bytes, they begin with this record.
-abbrev pub IsForGood : Dialect → List ℕ → List (List ℕ) → List ℕ → Type 0
-IsForGood d bytes fields rest = (more : List ℕ) → IsRecord d (bytes ++ more) fields (rest ++ more)
+abbrev pub IsRecordForGood : Dialect → List ℕ → List (List ℕ) → List ℕ → Type 0
+IsRecordForGood d bytes fields rest =
+    (more : List ℕ) → IsRecord d (bytes ++ more) fields (rest ++ more)
 
 -- There is no such record.
-abbrev pub NoneForGood : Dialect → List ℕ → Type 0
-NoneForGood d bytes = (fields : List (List ℕ)) (rest : List ℕ) → IsForGood d bytes fields rest → ⊥
+abbrev pub NoRecordForGood : Dialect → List ℕ → Type 0
+NoRecordForGood d bytes =
+    (fields : List (List ℕ)) (rest : List ℕ) → IsRecordForGood d bytes fields rest → ⊥
 
 -- The bytes start with a record of these fields, and `size` holds its number of fields, the length
 -- of their bytes, its own length, and whether its line ending is there. With a line ending all
@@ -35,8 +37,8 @@ pub record SizedAs (d : Dialect) (bytes : List ℕ) (fields : List (List ℕ)) (
   pub within : size.length ≤ length bytes
   pub count : size.fields ≡ length fields
   pub total : size.text ≡ length (text_of fields)
-  pub ended : MatchBool size.ended (IsForGood d bytes fields (drop size.length bytes))
-      (NoneForGood d bytes)
+  pub ended : MatchBool size.ended (IsRecordForGood d bytes fields (drop size.length bytes))
+      (NoRecordForGood d bytes)
 
 -- So for some fields.
 abbrev pub IsSized : Dialect → List ℕ → RecordSize → Type 0
@@ -60,7 +62,7 @@ ShowsFields made d bytes size text places = (fields : List (List ℕ)) × SizedA
 
 -- `bytes` are written at offset `at` if there is room, and `end` is the offset after them. The
 -- bytes from there on are unchanged.
-pub record Puts (bytes : List ℕ) (at : ℕ) (old new : List ℕ) (end : ℕ) : Type 0 where
+pub record PutsBytes (bytes : List ℕ) (at : ℕ) (old new : List ℕ) (end : ℕ) : Type 0 where
   pub is_end : end ≡ at + length bytes
   pub same : length new ≡ length old
   pub there : end ≤ length old → take end new ≡ take at old ++ bytes
@@ -69,10 +71,10 @@ pub record Puts (bytes : List ℕ) (at : ℕ) (old new : List ℕ) (end : ℕ) :
 -- A field is written at `at`, and at least as many bytes of the input are consumed.
 abbrev pub FieldPut : List ℕ → List ℕ → List ℕ → ℕ → List ℕ → List ℕ → ℕ → Type 0
 FieldPut field bytes rest at old new end =
-    Puts field at old new end × (end + length rest ≤ at + length bytes)
+    PutsBytes field at old new end × (end + length rest ≤ at + length bytes)
 
 -- A place is put at its number, if there is room for it. Those after it are unchanged.
-pub record Placed {P : Type 0} (place : P) (number : ℕ) (old new : List P) : Type 0 where
+pub record PutsPlace {P : Type 0} (place : P) (number : ℕ) (old new : List P) : Type 0 where
   pub same : length new ≡ length old
   pub there : number < length old → take (number + 1) new ≡ take number old ++ place ∷ []
   pub behind : drop (number + 1) new ≡ drop (number + 1) old
@@ -86,8 +88,8 @@ pub record PutsFields {P : Type 0} (made : ℕ → ℕ → P) (d : Dialect) (byt
   pub within : size.length ≤ length bytes
   pub count : size.fields ≡ length fields
   pub total : size.text ≡ length (text_of fields)
-  pub ended : MatchBool size.ended (IsForGood d bytes fields (drop size.length bytes))
-      (NoneForGood d bytes)
+  pub ended : MatchBool size.ended (IsRecordForGood d bytes fields (drop size.length bytes))
+      (NoRecordForGood d bytes)
   pub same : (length new ≡ length old) × (length after ≡ length before)
   pub text : size.text ≤ length old → take size.text new ≡ text_of fields
   pub places : size.fields ≤ length before → take size.fields after ≡ places_of made 0 fields

@@ -30,8 +30,8 @@ IsLineEnd Lf end = end ≡ 10 ∷ []
 IsLineEnd Either end = (end ≡ 13 ∷ 10 ∷ []) ⊎ (end ≡ 10 ∷ [])
 
 -- A record ends here: at a line ending followed by `rest`, or at the end of the bytes.
-abbrev pub EndsHere : LineEnds → List ℕ → List ℕ → Type 0
-EndsHere ends bytes rest = ((end : List ℕ) × IsLineEnd ends end × (bytes ≡ end ++ rest))
+abbrev pub RecordEnds : LineEnds → List ℕ → List ℕ → Type 0
+RecordEnds ends bytes rest = ((end : List ℕ) × IsLineEnd ends end × (bytes ≡ end ++ rest))
     ⊎ ((bytes ≡ []) × (rest ≡ []))
 
 -- The bytes begin with these fields, one or more, with delimiters between them, and the record ends
@@ -39,7 +39,7 @@ EndsHere ends bytes rest = ((end : List ℕ) × IsLineEnd ends end × (bytes ≡
 unfoldable pub AreFields : Dialect → List ℕ → List (List ℕ) → List ℕ → Type 0
 AreFields d bytes [] rest = ⊥
 AreFields d bytes (field ∷ []) rest = (text : List ℕ) × (behind : List ℕ) × IsFieldText d field text
-    × (bytes ≡ text ++ behind) × EndsHere d.ends behind rest
+    × (bytes ≡ text ++ behind) × RecordEnds d.ends behind rest
 AreFields d bytes (field ∷ (next ∷ fields)) rest = (text : List ℕ) × (behind : List ℕ)
     × IsFieldText d field text × (bytes ≡ text ++ (d.delimiter ∷ behind))
     × AreFields d behind (next ∷ fields) rest

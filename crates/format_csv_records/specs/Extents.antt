@@ -2,10 +2,10 @@
 use Rattle.std.specs.Prelude.{◌≡◌, ◌⊎◌, ◌≤◌, ◌<◌, ◌+◌, ℕ, List, [], ◌∷◌, ◌++◌, length, true}
 use Rattle.std.specs.Prelude.{Err, None, Ok, Option, Result, Some}
 use Rattle.std.specs.List.{All}
-use Rattle.format_csv_records.specs.Buffers.{IsSized, NoneForGood, text_of}
-use Rattle.format_csv_records.specs.Dialects.{EndsHere, IsFieldText, IsLineEnd, IsPlain, doubled}
+use Rattle.format_csv_records.specs.Buffers.{IsSized, NoRecordForGood, text_of}
+use Rattle.format_csv_records.specs.Dialects.{IsFieldText, IsLineEnd, IsPlain, RecordEnds, doubled}
 use Rattle.format_csv_records.specs.Early.{IsPrefixOfNone, IsViablePrefix}
-use Rattle.format_csv_records.specs.Parts.{Done}
+use Rattle.format_csv_records.specs.Parts.{DelimitedFields}
 use Rattle.format_csv_records.specs.Refused.{IsRefused}
 use Rattle.format_csv_records.specs.declared.buffers.RecordSize.{RecordSize}
 use Rattle.format_csv_records.specs.declared.dialect.Dialect.{Dialect}
@@ -44,14 +44,14 @@ pub record Passed (d : Dialect) (so : List ℕ → List ℕ → Type 0) (text fi
   pub field : List ℕ
   pub begun : List ℕ
   pub splits : front ≡ before ++ begun
-  pub are : Done d done before
+  pub are : DelimitedFields d done before
   pub is : so field begun
   pub count : fields ≡ length done
   pub total : text ≡ length (text_of done) + length field
   pub few : (text ≤ length front) × (fields ≤ length front)
 
 -- The extent is of these bytes, or of some that they begin with.
-pub record IsOf (d : Dialect) (extent : RecordExtent) (bytes : List ℕ) : Type 0 where
+pub record IsExtentOf (d : Dialect) (extent : RecordExtent) (bytes : List ℕ) : Type 0 where
   pub front : List ℕ
   pub left : List ℕ
   pub splits : bytes ≡ front ++ left
@@ -63,14 +63,14 @@ pub record IsOf (d : Dialect) (extent : RecordExtent) (bytes : List ℕ) : Type 
 -- record.
 abbrev pub RecordResult : Dialect → List ℕ → Result (Option RecordSize) InvalidRecord → Type 0
 RecordResult d bytes (Ok (Some size)) = IsSized d bytes size × (size.ended ≡ true)
-RecordResult d bytes (Ok None) = IsViablePrefix d bytes × NoneForGood d bytes
+RecordResult d bytes (Ok None) = IsViablePrefix d bytes × NoRecordForGood d bytes
 RecordResult d bytes (Err fault) = IsRefused d bytes fault × IsPrefixOfNone d bytes
 
 -- ---- what a call does with the bytes that are new, whatever those are that were passed
 
 -- With these bytes more that is passed which was passed before them.
-abbrev pub Keeps : Dialect → RecordPlace → ℕ → ℕ → List ℕ → RecordPlace → ℕ → ℕ → Type 0
-Keeps d at text fields taken next more others = (front : List ℕ)
+abbrev pub KeepsPassed : Dialect → RecordPlace → ℕ → ℕ → List ℕ → RecordPlace → ℕ → ℕ → Type 0
+KeepsPassed d at text fields taken next more others = (front : List ℕ)
     → Passed d (IsFieldPrefix d at) text fields front
     → Passed d (IsFieldPrefix d next) more others (front ++ taken)
 
@@ -90,22 +90,23 @@ IsStopped d at left (Some why) = (at ≡ place.Done → ⊥)
 -- The scan passes the longest possible prefix of the bytes; `left` is the rest.
 abbrev pub Walks : Dialect → Step → List ℕ → Walked → Type 0
 Walks d old fresh new = (taken : List ℕ) × (fresh ≡ taken ++ new.left.now)
-    × Keeps d old.place old.text old.fields taken new.at.place new.at.text new.at.fields
+    × KeepsPassed d old.place old.text old.fields taken new.at.place new.at.text new.at.fields
     × IsStopped d new.at.place new.left.now new.why
     × (new.at.text + length new.left.now ≤ old.text + length fresh)
     × (new.at.fields + length new.left.now ≤ old.fields + length fresh)
 
 -- the result of an extent, with the reason `why` if no record can continue
-abbrev pub Says : RecordExtent → Option Reason → Result (Option RecordSize) InvalidRecord → Type 0
-Says new why (Ok (Some size)) = (why ≡ None) × (new.place ≡ place.Done)
+abbrev pub ReportsResult : RecordExtent → Option Reason
+    → Result (Option RecordSize) InvalidRecord → Type 0
+ReportsResult new why (Ok (Some size)) = (why ≡ None) × (new.place ≡ place.Done)
     × (size.fields ≡ new.fields + 1) × (size.text ≡ new.text) × (size.length ≡ new.passed)
     × (size.ended ≡ true)
-Says new why (Ok None) = (why ≡ None) × (new.place ≡ place.Done → ⊥)
-Says new why (Err fault) = (why ≡ Some fault.why) × (fault.offset ≡ new.passed)
+ReportsResult new why (Ok None) = (why ≡ None) × (new.place ≡ place.Done → ⊥)
+ReportsResult new why (Err fault) = (why ≡ Some fault.why) × (fault.offset ≡ new.passed)
 
 -- no more bytes of text, and no more fields, than bytes
-abbrev pub IsFew : RecordExtent → Type 0
-IsFew extent = (extent.text ≤ extent.passed) × (extent.fields ≤ extent.passed)
+abbrev pub IsWithinPassed : RecordExtent → Type 0
+IsWithinPassed extent = (extent.text ≤ extent.passed) × (extent.fields ≤ extent.passed)
 
 -- From one extent to the next: some of the new bytes are passed, and the result depends on the new
 -- state and the rest. The bytes that were passed before do not matter.
@@ -113,8 +114,8 @@ abbrev pub IsLed : Dialect → RecordExtent → List ℕ → RecordExtent
     → Result (Option RecordSize) InvalidRecord → Type 0
 IsLed d old fresh new result = (taken : List ℕ) × (left : List ℕ) × (why : Option Reason)
     × (fresh ≡ taken ++ left) × (new.passed ≡ old.passed + length taken)
-    × Keeps d old.place old.text old.fields taken new.place new.text new.fields
-    × IsStopped d new.place left why × Says new why result
+    × KeepsPassed d old.place old.text old.fields taken new.place new.text new.fields
+    × IsStopped d new.place left why × ReportsResult new why result
 
 -- ---- one byte
 
@@ -126,18 +127,18 @@ IsBehind d b (Some step) = (step.text ≤ 1) × (step.fields ≤ 1)
     → Passed d (IsFieldPrefix d step.place) (text + step.text) (fields + step.fields)
     (front ++ b ∷ []))
 IsBehind d b None = (b ≡ d.delimiter → ⊥)
-    × ((after rest : List ℕ) → EndsHere d.ends (b ∷ after) rest → ⊥)
+    × ((after rest : List ℕ) → RecordEnds d.ends (b ∷ after) rest → ⊥)
 
 -- The byte continues the record, with this step; or the record has ended; or no record continues
 -- with it.
 abbrev pub IsTurn : Dialect → RecordPlace → ℕ → Turn → Type 0
 IsTurn d at b (Goes step) = (step.text ≤ 1) × (step.fields ≤ 1)
     × ((text fields : ℕ)
-    → Keeps d at text fields (b ∷ []) step.place (text + step.text) (fields + step.fields))
+    → KeepsPassed d at text fields (b ∷ []) step.place (text + step.text) (fields + step.fields))
 IsTurn d at b Ends = at ≡ place.Done
 IsTurn d at b (Never why) = (at ≡ place.Done → ⊥) × IsNever d at b why
 
 -- `IsRun d at run n`: `run` has `n` bytes, all of them contents of the field.
 abbrev pub IsRun : Dialect → RecordPlace → List ℕ → ℕ → Type 0
 IsRun d at run n =
-    (length run ≡ n) × ((text fields : ℕ) → Keeps d at text fields run at (text + n) fields)
+    (length run ≡ n) × ((text fields : ℕ) → KeepsPassed d at text fields run at (text + n) fields)

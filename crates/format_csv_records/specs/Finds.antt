@@ -2,7 +2,7 @@
 use Rattle.std.specs.Prelude.{◌≡◌, ◌≢◌, ◌⊎◌, ◌≤◌, ◌*◌, ◌++◌, ℕ, List, length, ⊤}
 use Rattle.std.specs.IoError.{error_kind}
 use Rattle.std.specs.declared.io.ErrorKind.TheVariants.{Interrupted}
-use Rattle.format_csv_records.specs.Buffers.{IsForGood, NoneForGood}
+use Rattle.format_csv_records.specs.Buffers.{IsRecordForGood, NoRecordForGood}
 use Rattle.format_csv_records.specs.Early.{IsPrefixOfNone, IsViablePrefix}
 use Rattle.format_csv_records.specs.Refused.{IsRefused}
 use Rattle.format_csv_records.specs.declared.dialect.Dialect.{Dialect}
@@ -21,11 +21,12 @@ IsOfReader OutOfMemory = ⊤
 
 -- The bytes start with a record, for any continuation.
 abbrev pub StartsForGood : Dialect → List ℕ → Type 0
-StartsForGood d bytes = (fields : List (List ℕ)) × (rest : List ℕ) × IsForGood d bytes fields rest
+StartsForGood d bytes =
+    (fields : List (List ℕ)) × (rest : List ℕ) × IsRecordForGood d bytes fields rest
 
 -- More bytes are needed: no record is final, and with some more bytes one is.
 abbrev pub WantsMore : Dialect → List ℕ → Type 0
-WantsMore d bytes = IsViablePrefix d bytes × NoneForGood d bytes
+WantsMore d bytes = IsViablePrefix d bytes × NoRecordForGood d bytes
 
 -- `IsFound d bytes IsOver found`: `Enough` if `bytes` starts with a record for any continuation, or
 -- `IsOver` (no more bytes follow); `Never` if no continuation starts with a record.
@@ -35,7 +36,7 @@ IsFound d bytes IsOver (Never fault) = IsRefused d bytes fault × IsPrefixOfNone
 
 -- A buffer has room for as many bytes as before, for 8,192 at most, or for four times as many at
 -- most as some of the bytes, which begin with no record that has ended.
-abbrev pub IsSmall : Dialect → ℕ → ℕ → List ℕ → Type 0
-IsSmall d old new bytes = (new ≡ old) ⊎ ((new ≤ 8192)
-    ⊎ ((begun : List ℕ) × (rest : List ℕ) × (bytes ≡ begun ++ rest) × NoneForGood d begun
+abbrev pub IsBoundedCapacity : Dialect → ℕ → ℕ → List ℕ → Type 0
+IsBoundedCapacity d old new bytes = (new ≡ old) ⊎ ((new ≤ 8192)
+    ⊎ ((begun : List ℕ) × (rest : List ℕ) × (bytes ≡ begun ++ rest) × NoRecordForGood d begun
     × (new ≤ 4 * length begun)))

@@ -22,8 +22,8 @@ IsHeld it = (it.start ≤ it.filled) × (it.filled ≤ length it.bytes.items)
 abbrev pub IsFull : Held → Type 0
 IsFull held = held.size ≤ 2 * length held.bytes
 
--- `Grew old new before after`: `new` is `old` followed by the bytes that the reader gave.
-pub record Grew (old new : List ℕ) (before after : Option (List ℕ)) : Type 0 where
+-- `GrewByReading old new before after`: `new` is `old` followed by the bytes that the reader gave.
+pub record GrewByReading (old new : List ℕ) (before after : Option (List ℕ)) : Type 0 where
   pub read : List ℕ
   pub grew : new ≡ old ++ read
   pub consumed : Consumes before after read

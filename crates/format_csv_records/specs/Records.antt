@@ -14,9 +14,9 @@ last_of start [] = start
 last_of start (end ∷ ends) = last_of end ends
 
 -- the places rise, and none is past the size
-unfoldable pub Rises : ℕ → List ℕ → ℕ → Type 0
-Rises start [] size = start ≤ size
-Rises start (end ∷ ends) size = (start ≤ end) × Rises end ends size
+unfoldable pub AreAscending : ℕ → List ℕ → ℕ → Type 0
+AreAscending start [] size = start ≤ size
+AreAscending start (end ∷ ends) size = (start ≤ end) × AreAscending end ends size
 
 -- The state of a record as contracts see it: its bytes, and the end of each field.
 pub record Row : Type 0 where
@@ -34,8 +34,8 @@ fields_of row = cut 0 row.ends row.bytes
 abbrev pub begun_of : Row → List ℕ
 begun_of row = drop (last_of 0 row.ends) row.bytes
 
-abbrev pub IsWhole : Row → Type 0
-IsWhole row = Rises 0 row.ends (length row.bytes)
+abbrev pub HasAscendingEnds : Row → Type 0
+HasAscendingEnds row = AreAscending 0 row.ends (length row.bytes)
 
 -- The field at an index, counted from 0, if there is one.
 unfoldable pub field_at : List (List ℕ) → ℕ → Option (List ℕ)

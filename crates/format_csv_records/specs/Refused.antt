@@ -19,23 +19,25 @@ abbrev pub EndsAField : Dialect → List ℕ → Type 0
 EndsAField d before = (end : List ℕ) → IsLineEnd d.ends end
     → (fields : List (List ℕ)) × IsRecord d (before ++ end) fields []
 
--- `Lacks d why before more back`: `more` would make `before` a record, but `back` starts with a
--- quote or a plain byte after a field; is empty, if a quote is open; starts with a carriage return
--- or line feed that is not a line ending; or does not have a line feed after a carriage return.
-abbrev pub Lacks : Dialect → Reason → List ℕ → List ℕ → List ℕ → Type 0
-Lacks d QuoteInField before more back =
+-- `LacksForRecord d why before more back`: `more` would make `before` a record, but `back` starts
+-- with a quote or a plain byte after a field; is empty, if a quote is open; starts with a carriage
+-- return or line feed that is not a line ending; or does not have a line feed after a carriage
+-- return.
+abbrev pub LacksForRecord : Dialect → Reason → List ℕ → List ℕ → List ℕ → Type 0
+LacksForRecord d QuoteInField before more back =
     IsLineEnd d.ends more × StartsWith (λ b. b ≡ d.quote) back × EndsAField d before
-Lacks d ByteBehindQuote before more back =
+LacksForRecord d ByteBehindQuote before more back =
     IsLineEnd d.ends more × StartsWith (IsPlain d) back × EndsAField d before
-Lacks d OpenQuote before more back = (more ≡ d.quote ∷ []) × (back ≡ [])
-Lacks d WrongLineEnd before more back = (IsLineEnd d.ends more × StartsWith IsBreak back)
+LacksForRecord d OpenQuote before more back = (more ≡ d.quote ∷ []) × (back ≡ [])
+LacksForRecord d WrongLineEnd before more back = (IsLineEnd d.ends more × StartsWith IsBreak back)
     ⊎ ((more ≡ 10 ∷ []) × ((front : List ℕ) × (before ≡ front ++ 13 ∷ [])))
 
 -- No continuation of `before` and the next byte starts with a record; or there is no next byte, and
 -- `before` does not start with a record.
-abbrev pub NoneWith : Dialect → List ℕ → List ℕ → Type 0
-NoneWith d before [] = (fields : List (List ℕ)) (rest : List ℕ) → IsRecord d before fields rest → ⊥
-NoneWith d before (b ∷ bs) = (after : List ℕ) (fields : List (List ℕ)) (rest : List ℕ)
+abbrev pub NoRecordWith : Dialect → List ℕ → List ℕ → Type 0
+NoRecordWith d before [] =
+    (fields : List (List ℕ)) (rest : List ℕ) → IsRecord d before fields rest → ⊥
+NoRecordWith d before (b ∷ bs) = (after : List ℕ) (fields : List (List ℕ)) (rest : List ℕ)
     → IsRecord d (before ++ (b ∷ after)) fields rest → ⊥
 
 -- `fault.offset` is the first offset at which no record can continue: the bytes before it are a
@@ -43,8 +45,8 @@ NoneWith d before (b ∷ bs) = (after : List ℕ) (fields : List (List ℕ)) (re
 abbrev pub IsRefused : Dialect → List ℕ → InvalidRecord → Type 0
 IsRefused d bytes fault = (before : List ℕ) × (back : List ℕ) × (more : List ℕ)
     × (fields : List (List ℕ)) × (bytes ≡ before ++ back) × (length before ≡ fault.offset)
-    × IsRecord d (before ++ more) fields [] × Lacks d fault.why before more back
-    × NoneWith d before back
+    × IsRecord d (before ++ more) fields [] × LacksForRecord d fault.why before more back
+    × NoRecordWith d before back
 
 -- The facts that an error states about the bytes; out of memory states nothing.
 abbrev pub IsNoRecord : Dialect → List ℕ → RecordError → Type 0

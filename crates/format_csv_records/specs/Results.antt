@@ -3,13 +3,13 @@
 use Rattle.std.specs.Prelude.{◌≡◌, ◌⊎◌, ◌+◌, ◌-◌, ◌^◌, ℕ, List, [], ◌++◌, length, min, ⊤, Bool}
 use Rattle.std.specs.Prelude.{Err, None, Ok, Option, Result, Some, false, true}
 use Rattle.std.specs.Io.KnownBytes.{Consumes, IsAtEnd}
-use Rattle.format_csv_records.specs.Buffers.{IsForGood}
+use Rattle.format_csv_records.specs.Buffers.{IsRecordForGood}
 use Rattle.format_csv_records.specs.Dialects.{IsRecord}
 use Rattle.format_csv_records.specs.Early.{IsPrefixOfNone}
 use Rattle.format_csv_records.specs.Refused.{IsRefused}
 use Rattle.format_csv_records.specs.declared.dialect.Dialect.{Dialect}
 use Rattle.format_csv_records.specs.declared.read.InvalidRecord.{InvalidRecord}
-use Rattle.format_csv_records.specs.Finds.{IsOfReader, IsSmall, WantsMore}
+use Rattle.format_csv_records.specs.Finds.{IsBoundedCapacity, IsOfReader, WantsMore}
 use Rattle.format_csv_records.specs.declared.error.ReadError.{ReadError}
 use Rattle.format_csv_records.specs.declared.error.ReadError.TheVariants.{Failed, OutOfMemory}
 use Rattle.format_csv_records.specs.declared.error.ReadError.TheVariants.{Invalid}
@@ -36,7 +36,7 @@ IsRefusedAt d bytes start fault =
 abbrev pub IsAnswer : Dialect → List ℕ → Type 0 → ℕ → Result Bool ReadError → List (List ℕ)
     → List ℕ → Type 0
 IsAnswer d bytes IsOver start (Ok true) fields rest =
-    IsRecord d bytes fields rest × (IsForGood d bytes fields rest ⊎ IsOver)
+    IsRecord d bytes fields rest × (IsRecordForGood d bytes fields rest ⊎ IsOver)
 IsAnswer d bytes IsOver start (Ok false) fields rest =
     (bytes ≡ []) × (rest ≡ []) × (fields ≡ []) × IsOver
 IsAnswer d bytes IsOver start (Err (Invalid fault)) fields rest =
@@ -53,7 +53,7 @@ pub record Reads (d : Dialect) (old new : List ℕ) (before after : Option (List
   pub consumed : Consumes before after read
   pub told : IsAnswer d (old ++ read) (IsAtEnd after) start result fields new
   pub moved : end ≡ offset_after start (length (old ++ read) - length new)
-  pub small : IsSmall d size room (old ++ read)
+  pub small : IsBoundedCapacity d size room (old ++ read)
 
 -- The result of a call if `bytes` are all bytes: the record at their start, or `false` if there are
 -- none, or the offset and the reason of the error.

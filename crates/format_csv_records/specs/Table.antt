@@ -1,6 +1,6 @@
 -- The state of a table reader, as contracts see it.
 use Rattle.std.specs.Prelude.{ℕ}
-use Rattle.format_csv_records.specs.Extents.{IsOf}
+use Rattle.format_csv_records.specs.Extents.{IsExtentOf}
 use Rattle.format_csv_records.specs.declared.dialect.Dialect.{Dialect}
 use Rattle.format_csv_records.specs.Held.{Held}
 use Rattle.format_csv_records.specs.declared.reader.Reader.TheInside.{Inside}
@@ -23,4 +23,4 @@ table_of it = record {
 
 -- The extent is of the bytes held.
 abbrev pub IsOfBuffer : {R A : Type 0} → Inside R A → Type 0
-IsOfBuffer it = IsOf it.dialect it.extent it.buffer.bytes
+IsOfBuffer it = IsExtentOf it.dialect it.extent it.buffer.bytes

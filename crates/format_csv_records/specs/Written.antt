@@ -22,14 +22,14 @@ IsWritten d field text = ((text ≡ field) × All (IsPlain d) field)
     ⊎ ((text ≡ d.quote ∷ (doubled d.quote field ++ d.quote ∷ [])) × (All (IsPlain d) field → ⊥))
 
 -- The text that is written for fields, with a delimiter after each.
-unfoldable pub Wrote : Dialect → List (List ℕ) → List ℕ → Type 0
-Wrote d [] before = before ≡ []
-Wrote d (field ∷ fields) before = (text : List ℕ) × (more : List ℕ) × IsWritten d field text
-    × (before ≡ text ++ (d.delimiter ∷ more)) × Wrote d fields more
+unfoldable pub WrittenFields : Dialect → List (List ℕ) → List ℕ → Type 0
+WrittenFields d [] before = before ≡ []
+WrittenFields d (field ∷ fields) before = (text : List ℕ) × (more : List ℕ) × IsWritten d field text
+    × (before ≡ text ++ (d.delimiter ∷ more)) × WrittenFields d fields more
 
 -- The text that is written for the last field: two quotes, if it is empty and the only field.
-abbrev pub IsLast : Dialect → List (List ℕ) → List ℕ → List ℕ → Type 0
-IsLast d others last text =
+abbrev pub IsLastWritten : Dialect → List (List ℕ) → List ℕ → List ℕ → Type 0
+IsLastWritten d others last text =
     ((others ≡ []) × (last ≡ []) × (text ≡ d.quote ∷ d.quote ∷ []))
     ⊎ (((others ≡ []) × (last ≡ []) → ⊥) × IsWritten d last text)
 
@@ -41,8 +41,8 @@ pub record Writes (d : Dialect) (fields : List (List ℕ)) (old new : List ℕ) 
   pub text : List ℕ
   pub end : List ℕ
   pub all : fields ≡ others ++ last ∷ []
-  pub wrote : Wrote d others before
-  pub is_last : IsLast d others last text
+  pub wrote : WrittenFields d others before
+  pub is_last : IsLastWritten d others last text
   pub is_end : end ≡ written_end d.ends
   pub behind : new ≡ old ++ (before ++ (text ++ end))
 
@@ -54,7 +54,7 @@ Extends old new = (more : List ℕ) × (new ≡ old ++ more)
 abbrev pub bytes_of : List (Bor (List ℕ)) → List (List ℕ)
 bytes_of fields = map (λ f. f.now) fields
 
--- like `IsLast`, with a test for whether it is the only field
+-- like `IsLastWritten`, with a test for whether it is the only field
 abbrev pub IsLastOf : Dialect → Bool → List ℕ → List ℕ → Type 0
 IsLastOf d alone last text =
     ((alone ≡ true) × (last ≡ []) × (text ≡ d.quote ∷ d.quote ∷ []))

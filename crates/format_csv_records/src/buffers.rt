@@ -7,11 +7,12 @@
 ghost use Rattle.std.specs.Prelude.{◌≡◌, ◌⊎◌, ◌+◌, ◌<◌, ◌≤◌, ◌^◌, ◌∷◌, [], List, ℕ, length};
 ghost use Rattle.std.specs.Prelude.{drop, take, true};
 ghost use Rattle.std.specs.Prelude.{MatchBool, MatchOption, MatchResult};
-ghost use Rattle.format_csv_records.specs.Buffers.{FieldPut, IsSized, Placed, Puts, PutsFields};
-ghost use Rattle.format_csv_records.specs.Buffers.{ShowsFields, SizesRecord};
+ghost use Rattle.format_csv_records.specs.Buffers.{FieldPut, IsSized, PutsBytes, PutsFields};
+ghost use Rattle.format_csv_records.specs.Buffers.{PutsPlace, ShowsFields, SizesRecord};
 ghost use Rattle.format_csv_records.specs.Dialects.{IsPlain};
-ghost use Rattle.format_csv_records.specs.Parts.{Closed, FieldFirst, IsOther, OpenFirst, SoMany};
-ghost use Rattle.format_csv_records.specs.Parts.{Unclosed};
+ghost use Rattle.format_csv_records.specs.Parts.{ClosedQuotes, IsNotQuote, LongestPrefixLength};
+ghost use Rattle.format_csv_records.specs.Parts.{StartsWithField, StartsWithOpenQuote};
+ghost use Rattle.format_csv_records.specs.Parts.{UnclosedQuotes};
 ghost use Rattle.format_csv_records.specs.Refused.{IsRefused};
 
 use crate::dialect::Dialect;
@@ -78,7 +79,7 @@ pub(crate) fn is_some(bytes: &[u8]) -> bool
 // Writes a byte at offset `at`, if there is room for it.
 #[inline(always)]
 fn put_byte(byte: u8, at: usize, text: &mut [u8])
-    ensures { Puts (byte ∷ []) at text.old text.new (at + 1) }
+    ensures { PutsBytes (byte ∷ []) at text.old text.new (at + 1) }
 {
     if at < text.len() {
         text[at] = byte;
@@ -101,8 +102,8 @@ fn room_for(count: usize, at: usize, text: &[u8]) -> usize
 #[inline(always)]
 fn put_plain(dialect: Dialect, bytes: &[u8], at: usize, text: &mut [u8]) -> usize
     requires { at + length bytes.now < 2 ^ 63 }
-    ensures run { SoMany (IsPlain dialect) bytes.now result }
-    ensures put { Puts (take result bytes.now) at text.old text.new (at + result) }
+    ensures run { LongestPrefixLength (IsPlain dialect) bytes.now result }
+    ensures put { PutsBytes (take result bytes.now) at text.old text.new (at + result) }
 {
     let room = room_for(bytes.len(), at, text);
     for place in 0..room {
@@ -120,8 +121,8 @@ fn put_plain(dialect: Dialect, bytes: &[u8], at: usize, text: &mut [u8]) -> usiz
 #[inline(always)]
 fn put_unquoted(quote: u8, bytes: &[u8], at: usize, text: &mut [u8]) -> usize
     requires { at + length bytes.now < 2 ^ 63 }
-    ensures run { SoMany (IsOther quote) bytes.now result }
-    ensures put { Puts (take result bytes.now) at text.old text.new (at + result) }
+    ensures run { LongestPrefixLength (IsNotQuote quote) bytes.now result }
+    ensures put { PutsBytes (take result bytes.now) at text.old text.new (at + result) }
 {
     let room = room_for(bytes.len(), at, text);
     for place in 0..room {
@@ -137,7 +138,7 @@ fn put_unquoted(quote: u8, bytes: &[u8], at: usize, text: &mut [u8]) -> usize
 // Puts a place at its number, if there is room for it.
 #[inline(always)]
 fn put_place<P: FieldPlace>(place: P, number: usize, places: &mut [P])
-    ensures { Placed place number places.old places.new }
+    ensures { PutsPlace place number places.old places.new }
 {
     if number < places.len() {
         places[number] = place;
@@ -148,8 +149,8 @@ fn put_place<P: FieldPlace>(place: P, number: usize, places: &mut [P])
 #[inline(always)]
 fn put_quoted<'i>(quote: u8, bytes: &'i [u8], at: usize, text: &mut [u8]) -> Option<AfterField<'i>>
     requires { at + length bytes.now < 2 ^ 63 }
-    ensures { MatchOption result (Unclosed quote bytes.now) (λ it. (field : List ℕ)
-        × Closed quote bytes.now field it.rest.now
+    ensures { MatchOption result (UnclosedQuotes quote bytes.now) (λ it. (field : List ℕ)
+        × ClosedQuotes quote bytes.now field it.rest.now
         × FieldPut field bytes.now it.rest.now at text.old text.new it.end) }
 {
     let mut rest = bytes;
@@ -179,8 +180,8 @@ fn put_field<'i>(
     text: &mut [u8],
 ) -> Option<AfterField<'i>>
     requires { at + length bytes.now < 2 ^ 63 }
-    ensures { MatchOption result (OpenFirst dialect bytes.now) (λ it. (field : List ℕ)
-        × FieldFirst dialect bytes.now field it.rest.now
+    ensures { MatchOption result (StartsWithOpenQuote dialect bytes.now) (λ it. (field : List ℕ)
+        × StartsWithField dialect bytes.now field it.rest.now
         × FieldPut field bytes.now it.rest.now at text.old text.new it.end) }
 {
     if first_is(bytes, dialect.quote) {

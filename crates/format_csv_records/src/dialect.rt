@@ -1,7 +1,7 @@
 //! Dialects: what separates fields, what quotes them, and what ends a record.
 
 ghost use Rattle.std.specs.Prelude.{◌≡◌, ◌⊎◌, ◌↔◌, IfSome, IsTrue, MatchResult};
-ghost use Rattle.format_csv_records.specs.Apart.{IsApart, WhyNone};
+ghost use Rattle.format_csv_records.specs.Apart.{DialectReason, IsApart};
 
 /// The line endings that end a record.
 ///
@@ -81,7 +81,7 @@ impl Dialect {
     pub fn new(delimiter: u8, quote: u8, ends: LineEnds) -> Result<Dialect, DialectError>
         ensures { MatchResult result
             (λ it. (it.delimiter ≡ delimiter) × (it.quote ≡ quote) × (it.ends ≡ ends))
-            (λ fault. WhyNone delimiter quote fault) }
+            (λ fault. DialectReason delimiter quote fault) }
     {
         if delimiter == quote {
             return Err(DialectError::DelimiterIsQuote);

@@ -7,9 +7,9 @@
 ghost use Rattle.std.specs.Prelude.{◌≡◌, ◌≤◌, ◌<◌, ◌+◌, ◌^◌, ◌++◌, ℕ, List, None, Ok, drop};
 ghost use Rattle.std.specs.Prelude.{length};
 ghost use Rattle.format_csv_records.specs.Buffers.{SizesRecord};
-ghost use Rattle.format_csv_records.specs.Extents.{IsFew, IsFieldPrefix, IsLed, IsOf, Passed};
-ghost use Rattle.format_csv_records.specs.Extents.{RecordResult};
-ghost use Rattle.format_csv_records.specs.Extents.{Says, Walks};
+ghost use Rattle.format_csv_records.specs.Extents.{IsExtentOf, IsFieldPrefix, IsLed};
+ghost use Rattle.format_csv_records.specs.Extents.{IsWithinPassed, Passed, RecordResult};
+ghost use Rattle.format_csv_records.specs.Extents.{ReportsResult, Walks};
 ghost use Rattle.format_csv_records.specs.declared.dialect.Dialect.{Dialect};
 
 use crate::buffers::{RecordSize, is_some};
@@ -132,7 +132,7 @@ impl RecordExtent {
     /// assert!(rt; RecordExtent::new().passed == 0);
     /// ```
     pub fn new() -> RecordExtent
-        ensures { (d : Dialect) (bytes : List ℕ) → IsOf d result bytes }
+        ensures { (d : Dialect) (bytes : List ℕ) → IsExtentOf d result bytes }
     {
         RecordExtent {
             passed: 0,
@@ -184,14 +184,14 @@ impl RecordExtent {
         dialect: Dialect,
         bytes: &[u8],
     ) -> Result<Option<RecordSize>, InvalidRecord>
-        ensures told { IsOf dialect self.old bytes.now → RecordResult dialect bytes.now result }
-        ensures kept { IsOf dialect self.old bytes.now
-            → (more : List ℕ) → IsOf dialect self.new (bytes.now ++ more) }
-        ensures fresh { self.old.passed ≤ length bytes.now → IsFew self.old
+        ensures told { IsExtentOf dialect self.old bytes.now → RecordResult dialect bytes.now result }
+        ensures kept { IsExtentOf dialect self.old bytes.now
+            → (more : List ℕ) → IsExtentOf dialect self.new (bytes.now ++ more) }
+        ensures fresh { self.old.passed ≤ length bytes.now → IsWithinPassed self.old
             → IsLed dialect self.old (drop self.old.passed bytes.now) self.new result }
         ensures short { length bytes.now < self.old.passed
             → (result ≡ Ok None) × (self.new ≡ self.old) }
-        ensures many { (IsFew self.old → ⊥) → (result ≡ Ok None) × (self.new ≡ self.old) }
+        ensures many { (IsWithinPassed self.old → ⊥) → (result ≡ Ok None) × (self.new ≡ self.old) }
     {
         match bytes.get(self.passed..) {
             None => Ok(None),
@@ -230,7 +230,7 @@ impl RecordExtent {
     #[inline(always)]
     fn say(&self, why: Option<Reason>) -> Result<Option<RecordSize>, InvalidRecord>
         requires { self.now.fields < 2 ^ 63 }
-        ensures { Says self.now why result }
+        ensures { ReportsResult self.now why result }
     {
         if let Some(why) = why {
             return Err(InvalidRecord {
@@ -287,9 +287,9 @@ impl RecordExtent {
         dialect: Dialect,
         bytes: &[u8],
     ) -> Result<Option<RecordSize>, InvalidRecord>
-        ensures told { IsOf dialect self.old bytes.now → SizesRecord dialect bytes.now result }
-        ensures kept { IsOf dialect self.old bytes.now
-            → (more : List ℕ) → IsOf dialect self.new (bytes.now ++ more) }
+        ensures told { IsExtentOf dialect self.old bytes.now → SizesRecord dialect bytes.now result }
+        ensures kept { IsExtentOf dialect self.old bytes.now
+            → (more : List ℕ) → IsExtentOf dialect self.new (bytes.now ++ more) }
     {
         match self.advance(dialect, bytes)? {
             Some(size) => Ok(Some(size)),

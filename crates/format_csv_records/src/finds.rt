@@ -2,9 +2,9 @@
 
 ghost use Rattle.std.specs.Prelude.{◌≡◌, ◌++◌, Err, List, ℕ, MatchOption, MatchResult};
 ghost use Rattle.std.specs.Io.KnownBytes.{IsAtEnd};
-ghost use Rattle.format_csv_records.specs.Extents.{IsOf};
-ghost use Rattle.format_csv_records.specs.Finds.{IsFound, IsOfReader, IsSmall, WantsMore};
-ghost use Rattle.format_csv_records.specs.Held.{Grew, IsFull};
+ghost use Rattle.format_csv_records.specs.Extents.{IsExtentOf};
+ghost use Rattle.format_csv_records.specs.Finds.{IsBoundedCapacity, IsFound, IsOfReader, WantsMore};
+ghost use Rattle.format_csv_records.specs.Held.{GrewByReading, IsFull};
 
 use crate::dialect::Dialect;
 use crate::error::ReadError;
@@ -26,8 +26,8 @@ pub(crate) enum Found {
 /// passed are not examined again.
 #[tactic(none)]
 fn look(dialect: Dialect, held: &[u8], extent: &mut RecordExtent) -> Option<Found>
-    requires { IsOf dialect extent.old held.now }
-    ensures kept { (more : List ℕ) → IsOf dialect extent.new (held.now ++ more) }
+    requires { IsExtentOf dialect extent.old held.now }
+    ensures kept { (more : List ℕ) → IsExtentOf dialect extent.new (held.now ++ more) }
     ensures found { MatchOption result (WantsMore dialect held.now)
         (λ found. IsFound dialect held.now ⊥ found) }
 {
@@ -46,14 +46,14 @@ pub(crate) fn find<R: Read, A: Allocator>(
     buffer: &mut Buffer<A>,
     extent: &mut RecordExtent,
 ) -> Result<Found, ReadError>
-    requires { IsOf dialect extent.old buffer.old.bytes }
-    ensures of { IsOf dialect extent.new buffer.new.bytes }
-    ensures grew { Grew buffer.old.bytes buffer.new.bytes (R.remaining source.old)
+    requires { IsExtentOf dialect extent.old buffer.old.bytes }
+    ensures of { IsExtentOf dialect extent.new buffer.new.bytes }
+    ensures grew { GrewByReading buffer.old.bytes buffer.new.bytes (R.remaining source.old)
         (R.remaining source.new) }
     ensures found { MatchResult result
         (λ found. IsFound dialect buffer.new.bytes (IsAtEnd (R.remaining source.new)) found)
         (λ error. IsOfReader error × WantsMore dialect buffer.new.bytes) }
-    ensures small { IsSmall dialect buffer.old.size buffer.new.size buffer.new.bytes }
+    ensures small { IsBoundedCapacity dialect buffer.old.size buffer.new.size buffer.new.bytes }
     ensures full { result ≡ Err ReadError.OutOfMemory → IsFull buffer.new }
 {
     loop {

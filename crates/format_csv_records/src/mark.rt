@@ -3,7 +3,7 @@
 ghost use Rattle.std.specs.Prelude.{◌≡◌, ◌⊎◌, ◌≤◌, length, Err, MatchResult};
 ghost use Rattle.std.specs.Io.KnownBytes.{IsAtEnd};
 ghost use Rattle.format_csv_records.specs.Finds.{IsOfReader};
-ghost use Rattle.format_csv_records.specs.Held.{Grew, IsFull};
+ghost use Rattle.format_csv_records.specs.Held.{GrewByReading, IsFull};
 
 use crate::error::ReadError;
 use crate::read_buffer::Buffer;
@@ -17,7 +17,7 @@ pub(crate) fn fill_to<R: Read, A: Allocator>(
     buffer: &mut Buffer<A>,
     count: usize,
 ) -> Result<(), ReadError>
-    ensures grew { Grew buffer.old.bytes buffer.new.bytes (R.remaining source.old)
+    ensures grew { GrewByReading buffer.old.bytes buffer.new.bytes (R.remaining source.old)
         (R.remaining source.new) }
     ensures told { MatchResult result
         (λ _. (count ≤ length buffer.new.bytes) ⊎ IsAtEnd (R.remaining source.new))

@@ -8,9 +8,10 @@ ghost use Rattle.std.specs.Prelude.{◌≤◌};
 ghost use Rattle.std.specs.Prelude.{◌^◌, MatchBool, MatchOption, MatchResult, OnErr};
 ghost use Rattle.std.specs.Prelude.{List, ℕ, IsTrue, ◌↔◌, take};
 ghost use Rattle.std.specs.List.{All};
-ghost use Rattle.format_csv_records.specs.Dialects.{AreFields, EndsHere, IsLineEnd, IsPlain};
-ghost use Rattle.format_csv_records.specs.Parts.{Closed, EndsNowhere, FieldFirst, IsOther};
-ghost use Rattle.format_csv_records.specs.Parts.{NotFirst, OpenFirst, SoMany, Unclosed, WhyNot};
+ghost use Rattle.format_csv_records.specs.Dialects.{AreFields, IsLineEnd, IsPlain, RecordEnds};
+ghost use Rattle.format_csv_records.specs.Parts.{ClosedQuotes, EndsNowhere, IsNotQuote, NotFirst};
+ghost use Rattle.format_csv_records.specs.Parts.{LongestPrefixLength, NoEndReason, UnclosedQuotes};
+ghost use Rattle.format_csv_records.specs.Parts.{StartsWithField, StartsWithOpenQuote};
 ghost use Rattle.format_csv_records.specs.Records.{fields_of};
 ghost use Rattle.format_csv_records.specs.Refused.{IsNoRecord, ReadsRecord};
 ghost use Rattle.format_csv_records.specs.declared.read.RecordError.TheVariants.{OutOfMemory};
@@ -114,7 +115,7 @@ const LANES: usize = 16;
 fn plain_lanes(dialect: Dialect, bytes: &[u8]) -> Option<usize>
     requires { LANES ≤ length bytes.now }
     ensures { MatchOption result (All (IsPlain dialect) (take LANES bytes.now))
-        (λ run. SoMany (IsPlain dialect) bytes.now run) }
+        (λ run. LongestPrefixLength (IsPlain dialect) bytes.now run) }
 {
     let lanes = u8x16::from_slice(bytes);
     let quotes = lanes.simd_eq(u8x16::splat(dialect.quote));
@@ -131,7 +132,7 @@ fn plain_lanes(dialect: Dialect, bytes: &[u8]) -> Option<usize>
 // The length of that prefix, byte by byte.
 #[inline(always)]
 fn plain_rest(dialect: Dialect, bytes: &[u8]) -> usize
-    ensures { SoMany (IsPlain dialect) bytes.now result }
+    ensures { LongestPrefixLength (IsPlain dialect) bytes.now result }
 {
     for (place, byte) in bytes.iter().enumerate() {
         if !is_plain(dialect, *byte) {
@@ -144,7 +145,7 @@ fn plain_rest(dialect: Dialect, bytes: &[u8]) -> usize
 // Returns the length of the longest prefix of plain bytes.
 #[inline(always)]
 pub(crate) fn plain_len(dialect: Dialect, bytes: &[u8]) -> usize
-    ensures { SoMany (IsPlain dialect) bytes.now result }
+    ensures { LongestPrefixLength (IsPlain dialect) bytes.now result }
 {
     let mut at = 0;
     'lanes: while bytes.len() - at >= LANES {
@@ -159,7 +160,7 @@ pub(crate) fn plain_len(dialect: Dialect, bytes: &[u8]) -> usize
 // Returns the number of bytes before the first quote, or of all bytes.
 #[inline(always)]
 pub(crate) fn unquoted_len(quote: u8, bytes: &[u8]) -> usize
-    ensures run { SoMany (IsOther quote) bytes.now result }
+    ensures run { LongestPrefixLength (IsNotQuote quote) bytes.now result }
     ensures size { length bytes.now < 2 ^ 64 }
 {
     for (place, byte) in bytes.iter().enumerate() {
@@ -184,10 +185,10 @@ pub(crate) fn first_is(bytes: &[u8], byte: u8) -> bool
 // The bytes of a field up to its closing quote, of two quotes one; or false if there is none.
 fn read_quoted<S: FieldSink>(quote: u8, sink: &mut S, input: &mut &[u8]) -> Result<bool, AllocError>
     ensures { IfOk result (λ closed. MatchBool closed
-        ((field : List ℕ) × Closed quote input.old.now field input.new.now
+        ((field : List ℕ) × ClosedQuotes quote input.old.now field input.new.now
         × (S.fields sink.new ≡ S.fields sink.old)
         × (S.begun sink.new ≡ S.begun sink.old ++ field))
-        (Unclosed quote input.old.now)) }
+        (UnclosedQuotes quote input.old.now)) }
 {
     let mut rest = *input;
     'runs: loop {
@@ -231,10 +232,10 @@ fn read_field<S: FieldSink>(
 ) -> Result<bool, AllocError>
     requires { S.begun sink.old ≡ [] }
     ensures { IfOk result (λ closed. MatchBool closed
-        ((field : List ℕ) × FieldFirst dialect input.old.now field input.new.now
+        ((field : List ℕ) × StartsWithField dialect input.old.now field input.new.now
         × (S.fields sink.new ≡ S.fields sink.old ++ field ∷ [])
         × (S.begun sink.new ≡ []))
-        (OpenFirst dialect input.old.now)) }
+        (StartsWithOpenQuote dialect input.old.now)) }
 {
     if first_is(input, dialect.quote) {
         *input = behind(input, 1);
@@ -274,7 +275,7 @@ pub(crate) fn by_both(ends: LineEnds) -> bool
 // number of bytes of a line ending that match.
 #[inline(always)]
 pub(crate) fn read_end<'i>(ends: LineEnds, rest: &'i [u8]) -> Result<&'i [u8], usize>
-    ensures { MatchResult result (λ left. EndsHere ends rest.now left.now)
+    ensures { MatchResult result (λ left. RecordEnds ends rest.now left.now)
         (λ begun. EndsNowhere ends rest.now begun) }
 {
     if rest.is_empty() {
@@ -301,7 +302,7 @@ pub(crate) fn read_end<'i>(ends: LineEnds, rest: &'i [u8]) -> Result<&'i [u8], u
 // Returns the reason why a record neither ends nor continues with the first byte.
 pub(crate) fn why_not(quote: u8, bytes: &[u8]) -> Reason
     requires { 0 < length bytes.now }
-    ensures { WhyNot quote bytes.now result }
+    ensures { NoEndReason quote bytes.now result }
 {
     match bytes.first() {
         Some(byte) if *byte == quote => Reason::QuoteInField,

@@ -4,7 +4,7 @@ ghost use Rattle.std.specs.Prelude.{◌≡◌, ◌⊎◌, ◌≤◌, ◌<◌, �
 ghost use Rattle.std.specs.Prelude.{Err, MatchResult, max};
 ghost use Rattle.std.specs.Io.KnownBytes.{IsAtEnd};
 ghost use Rattle.format_csv_records.specs.Finds.{IsOfReader};
-ghost use Rattle.format_csv_records.specs.Held.{Grew, IsFull};
+ghost use Rattle.format_csv_records.specs.Held.{GrewByReading, IsFull};
 
 use crate::error::ReadError;
 use crate::refill::{make_room, read_behind};
@@ -71,7 +71,7 @@ impl<A: Allocator> Buffer<A> {
     /// Reads once and returns the number of bytes read, which is 0 only at the end of the source.
     /// It allocates only if the bytes held are at least half of the buffer.
     pub(crate) fn fill<R: Read>(&mut self, source: &mut R) -> Result<usize, ReadError>
-        ensures grew { Grew self.old.bytes self.new.bytes (R.remaining source.old)
+        ensures grew { GrewByReading self.old.bytes self.new.bytes (R.remaining source.old)
             (R.remaining source.new) }
         ensures told { MatchResult result
             (λ n. (length self.new.bytes ≡ length self.old.bytes + n)

@@ -48,13 +48,13 @@ pub struct ByteRecord<A: Allocator> {
 }
 
 impl<A: Allocator> Model for ByteRecord<A> {
-    ghost use Rattle.format_csv_records.specs.Records.{IsWhole, Row, row_of};
+    ghost use Rattle.format_csv_records.specs.Records.{HasAscendingEnds, Row, row_of};
 
     ghost Value = { Row };
 
     ghost view = { row_of };
 
-    ghost invariant = { λ it. IsWhole (row_of it) };
+    ghost invariant = { λ it. HasAscendingEnds (row_of it) };
 }
 
 // Returns the start and the end of the field at index `place`.

@@ -1,7 +1,7 @@
 //! Removal of the record at the start of the bytes held.
 
 ghost use Rattle.std.specs.Prelude.{◌≡◌, ◌≤◌, ◌<◌, ◌-◌, length, Err, OnErr};
-ghost use Rattle.format_csv_records.specs.Extents.{IsOf};
+ghost use Rattle.format_csv_records.specs.Extents.{IsExtentOf};
 ghost use Rattle.format_csv_records.specs.Records.{fields_of};
 ghost use Rattle.format_csv_records.specs.Refused.{ReadsRecord};
 ghost use Rattle.format_csv_records.specs.Results.{IsFaultAt, IsTaken, offset_after};
@@ -53,8 +53,8 @@ pub(crate) fn take_record<A: Allocator, B: Allocator>(
     offset: &mut u64,
     fields: &mut ByteRecord<B>,
 ) -> Result<bool, ReadError>
-    requires { IsOf dialect extent.old buffer.old.bytes }
-    ensures of { IsOf dialect extent.new buffer.new.bytes }
+    requires { IsExtentOf dialect extent.old buffer.old.bytes }
+    ensures of { IsExtentOf dialect extent.new buffer.new.bytes }
     ensures told { IsTaken dialect buffer.old.bytes offset.old result (fields_of fields.new)
         buffer.new.bytes }
     ensures moved { offset.new ≡ offset_after offset.old

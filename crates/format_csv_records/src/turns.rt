@@ -2,7 +2,7 @@
 
 ghost use Rattle.std.specs.Prelude.{◌≡◌, ◌≤◌, ◌<◌, ◌+◌, ◌^◌, ◌∷◌, ℕ, List, length, take};
 ghost use Rattle.format_csv_records.specs.Extents.{IsBehind, IsRun, IsTurn};
-ghost use Rattle.format_csv_records.specs.Parts.{WhyNot};
+ghost use Rattle.format_csv_records.specs.Parts.{NoEndReason};
 
 use crate::dialect::Dialect;
 use crate::extent::RecordPlace;
@@ -74,7 +74,7 @@ fn step_behind(dialect: Dialect, byte: u8) -> Option<Step>
 /// Returns the reason why a record neither ends nor continues with the byte.
 #[inline(always)]
 fn why_byte(quote: u8, byte: u8) -> Reason
-    ensures { (more : List ℕ) → WhyNot quote (byte ∷ more) result }
+    ensures { (more : List ℕ) → NoEndReason quote (byte ∷ more) result }
 {
     if byte == quote {
         return Reason::QuoteInField;

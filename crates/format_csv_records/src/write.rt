@@ -3,7 +3,8 @@
 ghost use Rattle.std.specs.Prelude.{◌≡◌, ◌++◌, ◌∷◌, [], List, ℕ, MatchBool, OnOk};
 ghost use Rattle.format_csv_records.specs.Dialects.{doubled};
 ghost use Rattle.format_csv_records.specs.Written.{Extends, IsLastOf, IsWritten, Writes};
-ghost use Rattle.format_csv_records.specs.Written.{WritesRecord, Wrote, bytes_of, written_end};
+ghost use Rattle.format_csv_records.specs.Written.{WritesRecord, WrittenFields, bytes_of};
+ghost use Rattle.format_csv_records.specs.Written.{written_end};
 ghost use Rattle.format_csv_records.specs.declared.write.WriteError.TheVariants.{NoFields};
 ghost use Rattle.format_csv_records.specs.declared.write.WriteError.TheVariants.{OutOfMemory};
 
@@ -85,7 +86,7 @@ fn write_others<A: Allocator>(
     fields: &[&[u8]],
     out: &mut Vec<u8, A>,
 ) -> Result<(), AllocError>
-    ensures done { OnOk result ((text : List ℕ) × Wrote dialect (bytes_of fields.now) text
+    ensures done { OnOk result ((text : List ℕ) × WrittenFields dialect (bytes_of fields.now) text
         × (out.new.items ≡ out.old.items ++ text)) }
     ensures kept { Extends out.old.items out.new.items }
 {

@@ -9,13 +9,13 @@ use Rattle.grammars.specs.Grammar.{Each, Gathered, Grammar, Many, NoMatch}
 use Rattle.grammars.specs.Grammar.Lengths.{same_beginnings}
 use Rattle.grammars.specs.Grammar.Unique.{many_unique}
 use Rattle.format_dns.specs.Data.{AreStrings, HasMail, HasOtherSize, HasService, HasZone}
-use Rattle.format_dns.specs.Data.{IsLastName, IsOfForm, NoForm, NoLastName, NoMail}
+use Rattle.format_dns.specs.Data.{IsLastName, IsDataOfForm, NoDataOfForm, NoLastName, NoMail}
 use Rattle.format_dns.specs.Data.{IsDataAt, NoService, NoStrings, NoZone, form_of_data}
 use Rattle.format_dns.proofs.FieldLaws.{field_length, service_length, zone_length}
 use Rattle.format_dns.proofs.Laws.{sized_unique}
-use Rattle.format_dns.proofs.NameLaws.{no_name, one_behind, one_place}
-use Rattle.format_dns.specs.Names.{At, IsName, IsString, Label}
-use Rattle.format_dns.proofs.PartLaws.{at_length}
+use Rattle.format_dns.proofs.NameLaws.{invalid_is_no_name, name_end_unique, suffix_unique}
+use Rattle.format_dns.specs.Names.{IsName, IsString, Label, SuffixAt}
+use Rattle.format_dns.proofs.PartLaws.{suffix_length}
 use Rattle.format_dns.specs.declared.data.Data.{Data}
 use Rattle.format_dns.specs.declared.data.Data.TheVariants.{Ipv4, Ipv6, MailExchange, Name, Other}
 use Rattle.format_dns.specs.declared.data.Data.TheVariants.{Service, StartOfAuthority, Text}
@@ -96,7 +96,7 @@ read_front most tokens rest strings (xs, held, many) =
 
 module _ (message : List ℕ) where
   pub strings_stand : {A : Type 0} (place : ℕ) (tokens rest : List ℕ) (strings : Vec Label A)
-      → At message place tokens → StringsRead (length tokens) tokens strings rest
+      → SuffixAt message place tokens → StringsRead (length tokens) tokens strings rest
       → (length strings.items ≡ 0 → ⊥) → length rest ≡ 0
       → AreStrings message place strings.items
   strings_stand place tokens [] strings at read some last = record {
@@ -108,14 +108,14 @@ module _ (message : List ℕ) where
   strings_stand place tokens (b ∷ rest) strings at read some last = absurd (omega (arith, last))
 
   pub strings_fail : {A : Type 0} (place : ℕ) (tokens rest : List ℕ) (strings : Vec Label A)
-      → At message place tokens → StringsRead (length tokens) tokens strings rest
+      → SuffixAt message place tokens → StringsRead (length tokens) tokens strings rest
       → (length strings.items ≡ 0) ⊎ (length rest ≡ 0 → ⊥)
       → NoStrings message place (Ends (length message - length rest))
   strings_fail place tokens [] strings at read (inr left) = absurd (left refl)
   strings_fail place tokens [] strings at read (inl none) =
       let all = strings_none strings.items tokens [] none
       (each_read (length tokens) tokens [] strings read) in
-      let same : length message ≡ place = omega (arith, at_length at, all) in
+      let same : length message ≡ place = omega (arith, suffix_length at, all) in
       inl (ap (λ n. Ends n) (omega (arith, same)), omega (arith, same))
   strings_fail place tokens (b ∷ rest) strings at read why =
       let (before, size, e) = at in
@@ -139,10 +139,11 @@ module _ (message : List ℕ) where
         refl,
       )
 
-  pub no_size : {place size : ℕ} {tokens : List ℕ} {fault : PartError} → At message place tokens
+  pub no_size : {place size : ℕ} {tokens : List ℕ} {fault : PartError}
+      → SuffixAt message place tokens
       → length tokens ≡ size → HasOtherSize message place size fault → ⊥
-  no_size at is (inl (e, few)) = omega (arith, at_length at, is, few)
-  no_size at is (inr (e, many)) = omega (arith, at_length at, is, many)
+  no_size at is (inl (e, few)) = omega (arith, suffix_length at, is, few)
+  no_size at is (inr (e, many)) = omega (arith, suffix_length at, is, many)
 
   pub no_strings : (place : ℕ) (fault : PartError) (strings : List Label)
       → NoStrings message place fault → AreStrings message place strings → ⊥
@@ -150,7 +151,7 @@ module _ (message : List ℕ) where
       omega (
         arith,
         few,
-        at_length are.starts,
+        suffix_length are.starts,
         strings_least strings are.tokens [] are.each,
         are.some,
       )
@@ -158,54 +159,60 @@ module _ (message : List ℕ) where
       (inr (tokens, some, end, rest, at, each, ends, none, left, e)) are =
       let P : List ℕ → Type 0 = λ l. Each IsString l some rest in
       string_next some strings are.tokens rest
-      (subst P (one_place message at are.starts) each) are.each none left
+      (subst P (suffix_unique message at are.starts) each) are.each none left
 
   module _ (pointers : ℕ) where
     pub no_last_name : {A : Type 0} (place : ℕ) (fault : PartError) (name : Names.Name A)
         → NoLastName message pointers place fault → IsLastName message pointers place name → ⊥
     no_last_name place fault name (inl none) (is, ends) =
-        no_name message pointers 254 place fault none name.labels.items name.behind is.0 is.1
+        invalid_is_no_name message pointers 254 place fault none name.labels.items name.behind
+        is.0 is.1
     no_last_name place fault name (inr (labels, behind, short, e, other)) (is, ends) =
-        other (one_behind message pointers place labels name.labels.items behind name.behind short.0
+        other (name_end_unique message pointers place labels name.labels.items behind
+        name.behind short.0
         is.0 ∙ ends)
 
     pub no_mail : {A : Type 0} (place : ℕ) (fault : PartError) (mail : Mails.MailExchange A)
         → NoMail message pointers place fault → HasMail message pointers place mail → ⊥
     no_mail place fault mail (inl (e, few)) is =
-        omega (arith, few, at_length is.fields_at, field_length is.preference)
+        omega (arith, few, suffix_length is.fields_at, field_length is.preference)
     no_mail place fault mail (inr (enough, none)) is =
         no_last_name (place + 2) fault mail.exchange none is.exchange
 
     pub no_service : {A : Type 0} (place : ℕ) (fault : PartError) (service : Services.Service A)
         → NoService message pointers place fault → HasService message pointers place service → ⊥
     no_service place fault service (inl (e, few)) is =
-        omega (arith, few, at_length is.fields_at, service_length is.fields)
+        omega (arith, few, suffix_length is.fields_at, service_length is.fields)
     no_service place fault service (inr (enough, none)) is =
         no_last_name (place + 6) fault service.target none is.target
 
     pub no_zone : {A : Type 0} (place : ℕ) (fault : PartError) (zone : Zones.StartOfAuthority A)
         → NoZone message pointers place fault → HasZone message pointers place zone → ⊥
     no_zone place fault zone (inl none) is =
-        no_name message pointers 254 place fault none zone.primary.labels.items zone.primary.behind
+        invalid_is_no_name message pointers 254 place fault none zone.primary.labels.items
+        zone.primary.behind
         is.primary.0 is.primary.1
     no_zone place fault zone (inr (labels, second, short, why)) is =
-        let first = one_behind message pointers place labels zone.primary.labels.items second
+        let first = name_end_unique message pointers place labels zone.primary.labels.items second
         zone.primary.behind short.0 is.primary.0 in
         let P : ℕ → Type 0 = λ n. IsName message pointers n zone.mailbox.labels.items
         zone.mailbox.behind in
         let named = subst P (sym first) is.mailbox.0 in
         elim why [
-          | inl none ↦ no_name message pointers 254 second fault none zone.mailbox.labels.items
+          | inl none
+              ↦ invalid_is_no_name message pointers 254 second fault none
+              zone.mailbox.labels.items
               zone.mailbox.behind named is.mailbox.1
           | inr (more, behind, short2, other) ↦
-              let there = one_behind message pointers second more zone.mailbox.labels.items behind
+              let there =
+              name_end_unique message pointers second more zone.mailbox.labels.items behind
               zone.mailbox.behind short2.0 named in
               elim other [
                 | inl (e, few) ↦ omega (
                   arith,
                   few,
                   there,
-                  at_length is.fields_at,
+                  suffix_length is.fields_at,
                   zone_length is.fields,
                 )
                 | inr (e, many) ↦ omega (arith, many, there, is.ends)
@@ -213,7 +220,7 @@ module _ (message : List ℕ) where
         ]
 
     no_held : {A : Type 0} (place : ℕ) (fault : PartError) (it : Data A)
-        → NoForm message pointers place (form_of_data it) fault
+        → NoDataOfForm message pointers place (form_of_data it) fault
         → IsDataAt message pointers place it → ⊥
     no_held place fault (Ipv4 address) none (at, size) = no_size at size none
     no_held place fault (Ipv6 address) none (octets, at, size, is) = no_size at size none
@@ -222,11 +229,12 @@ module _ (message : List ℕ) where
     no_held place fault (Text strings) none is = no_strings place fault strings.items none is
     no_held place fault (StartOfAuthority zone) none is = no_zone place fault zone none is
     no_held place fault (Service service) none is = no_service place fault service none is
-    no_held place fault (Other octets) (e, past) at = omega (arith, past, at_length at)
+    no_held place fault (Other octets) (e, past) at = omega (arith, past, suffix_length at)
 
     -- if there is an error, there are no data of this form
     pub no_form : {A : Type 0} (place : ℕ) (form : Form) (fault : PartError) (it : Data A)
-        → NoForm message pointers place form fault → IsOfForm message pointers place form it → ⊥
+        → NoDataOfForm message pointers place form fault
+        → IsDataOfForm message pointers place form it → ⊥
     no_form place form fault it none (is, stands) =
-        let P : Form → Type 0 = λ f. NoForm message pointers place f fault in
+        let P : Form → Type 0 = λ f. NoDataOfForm message pointers place f fault in
         no_held place fault it (subst P (sym is) none) stands

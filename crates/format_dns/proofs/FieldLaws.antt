@@ -3,8 +3,8 @@ use Rattle.std.specs.Prelude.{◌≡◌, ◌+◌, ℕ, List, length}
 use Rattle.std.specs.Int.{bytes_high_first}
 use Rattle.std.proofs.Common.{ap, arith, length-append}
 use Rattle.winnow_integers.specs.Integer.Written.{length_written}
-use Rattle.format_dns.specs.Fields.{AreAsked, AreOfService, AreOfZone, AreRecordFields}
-use Rattle.format_dns.specs.Fields.{IsField}
+use Rattle.format_dns.specs.Fields.{AreQuestionFields, AreRecordFields, AreServiceFields}
+use Rattle.format_dns.specs.Fields.{AreZoneFields, IsField}
 
 pub field_length : {width n : ℕ} {bytes rest : List ℕ} → IsField width n bytes rest
     → length bytes ≡ width + length rest
@@ -16,7 +16,7 @@ field_length {width} {n} {bytes} {rest} f =
       length_written width n,
     )
 
-pub asked_length : {kind class : ℕ} {bytes rest : List ℕ} → AreAsked kind class bytes rest
+pub asked_length : {kind class : ℕ} {bytes rest : List ℕ} → AreQuestionFields kind class bytes rest
     → length bytes ≡ 4 + length rest
 asked_length a = omega (arith, field_length a.kind, field_length a.class)
 
@@ -32,12 +32,12 @@ record_length a =
     )
 
 pub service_length : {priority weight port : ℕ} {bytes rest : List ℕ}
-    → AreOfService priority weight port bytes rest → length bytes ≡ 6 + length rest
+    → AreServiceFields priority weight port bytes rest → length bytes ≡ 6 + length rest
 service_length a =
     omega (arith, field_length a.priority, field_length a.weight, field_length a.port)
 
 pub zone_length : {serial refresh retry expire minimum : ℕ} {bytes rest : List ℕ}
-    → AreOfZone serial refresh retry expire minimum bytes rest → length bytes ≡ 20 + length rest
+    → AreZoneFields serial refresh retry expire minimum bytes rest → length bytes ≡ 20 + length rest
 zone_length a =
     omega (
       arith,

@@ -18,7 +18,7 @@ use Rattle.winnow_integers.specs.Integer.Written.{be_written, length_written}
 use Rattle.streams.specs.Kind.{Kind}
 use Rattle.streams.specs.Reading.{Reading}
 use Rattle.format_dns.specs.Fields.{IsField}
-use Rattle.format_dns.specs.Header.{HasTooMany, IsHighByte, IsLowByte, IsNumber, LacksPart}
+use Rattle.format_dns.specs.Header.{HasTooMany, IsHighByte, IsLowByte, IsTwoByteNumber, LacksPart}
 use Rattle.parser_definitions.specs.BitBool.{BitBoolDoes}
 use Rattle.parser_definitions.specs.BitsOfBytes.{BitsOfBytesDoes}
 use Rattle.parser_definitions.specs.Does.{Ran}
@@ -198,12 +198,12 @@ field_read width reading form i o t j ran =
 
 pub number_read : {L : Type 0} (reading : Reading ℕ L) (i : Input ℕ) (o : ℕ) (t : ⊤)
     (j : Input ℕ) → Ran reading (NumberDoes 2 reading) modal tt i (Ok o) t j
-    → IsNumber o i.left.tokens j.left.tokens
+    → IsTwoByteNumber o i.left.tokens j.left.tokens
 number_read reading i o t j ran =
     let read = field_read 2 reading modal i o t j ran in
     record { splits = read.splits; fits = read.fits }
 
-pub number_left : (n : ℕ) (bytes rest : List ℕ) → IsNumber n bytes rest
+pub number_left : (n : ℕ) (bytes rest : List ℕ) → IsTwoByteNumber n bytes rest
     → length bytes ≡ 2 + length rest
 number_left n bytes rest it =
     omega (

@@ -174,7 +174,7 @@ told_pointer {tokens} place e is told =
     let P : Ending → Type 0 = λ x. EndingResult tokens place (Ok x) in subst P is told
 
 -- what was put after others
-pub put_behind : {X E : Type 0} {all : List X} (front more : List X) (r : Result (Unit {0}) E)
+pub pushed_is_append : {X E : Type 0} {all : List X} (front more : List X) (r : Result (Unit {0}) E)
     → all ≡ (if is_ok r then front ++ more else front) → is_err r ≡ false → all ≡ front ++ more
-put_behind front more (Ok x) e is = e
-put_behind front more (Err x) e is = absurd (true_is_false is)
+pushed_is_append front more (Ok x) e is = e
+pushed_is_append front more (Err x) e is = absurd (true_is_false is)

@@ -7,13 +7,13 @@ use Rattle.std.proofs.lemmas.List.{take_all}
 use Rattle.streams.specs.Equal.{same_others}
 use Rattle.format_dns.proofs.FieldLaws.{field_length}
 use Rattle.format_dns.specs.Fields.{IsField}
-use Rattle.format_dns.specs.Header.{AreCounts, IsHeader, IsNumber}
+use Rattle.format_dns.specs.Header.{AreCounts, IsHeader, IsTwoByteNumber}
 use Rattle.format_dns.specs.Messages.{HasNoMessage, IsMessage, MessageResult, StartsWithHeader}
 use Rattle.format_dns.specs.Messages.{QuestionsTo, RecordsTo, SectionLacks, SectionStops}
 use Rattle.format_dns.specs.Messages.{SectionWants, WantsMessage}
-use Rattle.format_dns.proofs.PartLaws.{lack_questions, one_question, rows_end}
+use Rattle.format_dns.proofs.PartLaws.{lacking_is_no_questions, one_question, rows_end}
 use Rattle.format_dns.specs.Questions.{AreQuestions, IsQuestion, QuestionsLack, QuestionsWant}
-use Rattle.format_dns.proofs.RecordLaws.{lack_records, one_field, one_record}
+use Rattle.format_dns.proofs.RecordLaws.{lacking_is_no_records, one_field, one_record}
 use Rattle.format_dns.specs.Records.{AreRecords, IsRecord, RecordsLack, RecordsWant}
 use Rattle.format_dns.specs.declared.fault.PartError.{PartError}
 use Rattle.format_dns.specs.declared.fault.MessageError.{MessageError}
@@ -29,14 +29,15 @@ use Rattle.format_dns.specs.declared.record.Records.{Records}
 -- ---- headers
 
 -- a number is a field of two bytes
-as_field : {n : ℕ} {bytes rest : List ℕ} → IsNumber n bytes rest → IsField 2 n bytes rest
+as_field : {n : ℕ} {bytes rest : List ℕ} → IsTwoByteNumber n bytes rest → IsField 2 n bytes rest
 as_field a = record { splits = a.splits; fits = a.fits }
 
 one_number : {n m : ℕ} {bytes others rest more : List ℕ} → bytes ≡ others
-    → IsNumber n bytes rest → IsNumber m others more → (n ≡ m) × (rest ≡ more)
+    → IsTwoByteNumber n bytes rest → IsTwoByteNumber m others more → (n ≡ m) × (rest ≡ more)
 one_number e a b = one_field e (as_field a) (as_field b)
 
-number_of : (n : ℕ) (rest : List ℕ) → n < 65536 → IsNumber n (bytes_high_first 2 n ++ rest) rest
+number_of : (n : ℕ) (rest : List ℕ) → n < 65536
+    → IsTwoByteNumber n (bytes_high_first 2 n ++ rest) rest
 number_of n rest fits = record { splits = refl; fits = fits }
 
 -- the counts of two headers are equal
@@ -129,7 +130,7 @@ module _ (message : List ℕ) (pointers : ℕ) where
   records_lack start other count number entry fault records at same lacks are =
       let P : ℕ → Type 0 = λ n. AreRecords message pointers n number records in
       let Q : ℕ → Type 0 = λ n. AreRecords message pointers start n records in
-      lack_records message pointers start count entry fault records lacks
+      lacking_is_no_records message pointers start count entry fault records lacks
       (subst Q (sym same) (subst P (sym at) are))
 
   questions_lack : {A : Type 0} (count number entry : ℕ) (fault : PartError)
@@ -138,7 +139,8 @@ module _ (message : List ℕ) (pointers : ℕ) where
       → AreQuestions message pointers 12 number questions → ⊥
   questions_lack count number entry fault questions same lacks are =
       let P : ℕ → Type 0 = λ n. AreQuestions message pointers 12 n questions in
-      lack_questions message pointers 12 count entry fault questions lacks (subst P (sym same) are)
+      lacking_is_no_questions message pointers 12 count entry fault questions lacks
+      (subst P (sym same) are)
 
   -- a section that lacks an entry is that of no message
   no_section : {A : Type 0} (s : Section) (entry : ℕ) (why : PartError) (h : Header)

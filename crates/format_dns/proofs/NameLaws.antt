@@ -12,9 +12,9 @@ use Rattle.stream_sets.specs.Range.{from_to}
 use Rattle.grammars.specs.Grammar.{Each, Gathered, Many}
 use Rattle.grammars.specs.Grammar.Lengths.{same_beginnings}
 use Rattle.grammars.specs.Grammar.Unique.{many_unique}
-use Rattle.format_dns.specs.Names.{AreLabels, At, FaultBy, HasNoName, IsNameEnding, IsNoNameEnding}
-use Rattle.format_dns.specs.Names.{HasMore, IsLabel, IsName, IsPointer, IsRoot, Label, NameBy}
-use Rattle.format_dns.specs.Names.{NameWithin, NoEnding, octets}
+use Rattle.format_dns.specs.Names.{AreLabels, SuffixAt, FaultBy, HasNoName, IsNameEnding}
+use Rattle.format_dns.specs.Names.{IsNoNameEnding, HasMore, IsLabel, IsName, IsPointer, IsRoot}
+use Rattle.format_dns.specs.Names.{Label, NameBy, NameWithin, NoEnding, octets}
 use Rattle.format_dns.proofs.Octets.{each_here, none_here, octets_append, octets_each}
 use Rattle.format_dns.proofs.Octets.{octets_least, octets_most}
 use Rattle.format_dns.specs.declared.fault.PartError.{PartError}
@@ -26,9 +26,9 @@ use Rattle.format_dns.proofs.Laws.{LabelsRead, goes_one, label_unique, root_poin
 -- ---- either one name or an error
 
 module _ (message : List ℕ) where
-  pub one_place : {place : ℕ} {tokens others : List ℕ} → At message place tokens
-      → At message place others → tokens ≡ others
-  one_place {place} {tokens} {others} (front, size, e) (other, size2, f) =
+  pub suffix_unique : {place : ℕ} {tokens others : List ℕ} → SuffixAt message place tokens
+      → SuffixAt message place others → tokens ≡ others
+  suffix_unique {place} {tokens} {others} (front, size, e) (other, size2, f) =
       (same_beginnings front other tokens others (size ∙ sym size2) (sym e ∙ f)).1
 
   -- the rest after the labels at an offset is unique
@@ -38,7 +38,7 @@ module _ (message : List ℕ) where
   one_rest {here = here} {here2 = here2} {rest = rest} {rest2 = rest2} a b =
       let P : List ℕ → Type 0 = λ l. Many IsLabel (from_to 0 None) l here2 rest2 in
       (many_unique label_unique (from_to 0 None)).one a.tokens here here2 rest rest2 a.each
-      (subst P (one_place b.starts a.starts) b.each)
+      (subst P (suffix_unique b.starts a.starts) b.each)
 
   -- ... and the place of it
   one_end : {start end end2 : ℕ} {here here2 : List Label} {rest rest2 : List ℕ}
@@ -77,12 +77,12 @@ module _ (message : List ℕ) where
       omega (arith, is, is2, one_end a b)
 
   -- the offset after a name is unique
-  pub one_behind : (pointers start : ℕ) (labels more : List Label) (behind other : ℕ)
+  pub name_end_unique : (pointers start : ℕ) (labels more : List Label) (behind other : ℕ)
       → IsName message pointers start labels behind → IsName message pointers start more other
       → behind ≡ other
-  one_behind zero start labels more behind other a b =
+  name_end_unique zero start labels more behind other a b =
       behind_by start labels more behind other a b
-  one_behind (suc pointers) start labels more behind other a b =
+  name_end_unique (suc pointers) start labels more behind other a b =
       behind_by start labels more behind other a b
 
   -- a place past the end has no labels
@@ -135,7 +135,7 @@ module _ (message : List ℕ) where
       omega (
         arith,
         many,
-        octets_most some here a.tokens other rest (subst P (one_place at a.starts) each)
+        octets_most some here a.tokens other rest (subst P (suffix_unique at a.starts) each)
             (each_here a) (none_here a),
         first_octets start here end rest labels behind ends,
         fits,
@@ -148,25 +148,26 @@ module _ (message : List ℕ) where
       goes_one (below (room - octets here)) start end rest2 fault here2 end2 labels behind
       (subst P (one_rest a b) why)
       (within room (octets here) start here2 end2 rest2 labels behind
-      (octets_most here here2 b.tokens rest rest2 (subst Q (one_place a.starts b.starts)
+      (octets_most here here2 b.tokens rest rest2 (subst Q (suffix_unique a.starts b.starts)
       (each_here a)) (each_here b) (none_here b)) fits ends)
 
-  pub no_name : (pointers room start : ℕ) (fault : PartError)
+  pub invalid_is_no_name : (pointers room start : ℕ) (fault : PartError)
       → HasNoName message pointers room start fault
       → (labels : List Label) (behind : ℕ) → IsName message pointers start labels behind
       → octets labels ≤ room → ⊥
-  no_name zero room start fault h labels behind is =
+  invalid_is_no_name zero room start fault h labels behind is =
       not_both {faults = λ left end to fault. fault ≡ TooMany end}
       (λ left end to fault more f o. o.0) room start fault labels behind h is
-  no_name (suc pointers) room start fault h labels behind is =
+  invalid_is_no_name (suc pointers) room start fault h labels behind is =
       not_both {faults = λ left end to fault. HasNoName message pointers left to fault}
-      (λ left end to fault more f ((behind, o), few). no_name pointers left to fault f more behind o
+      (λ left end to fault more f ((behind, o), few). invalid_is_no_name pointers left to fault
+      f more behind o
       few) room start fault labels behind h is
 
   -- facts about the labels read from an offset on: the bytes before them, and their octets
   read_from : (place most : ℕ) (tokens rest : List ℕ) {A : Type 0} (labels : Vec Label A)
       → place ≤ length message → tokens ≡ slice_range message place (length message)
-      → LabelsRead most tokens labels rest → At message place tokens
+      → LabelsRead most tokens labels rest → SuffixAt message place tokens
       × Each IsLabel tokens labels.items rest
       × (length message ≡ place + (octets labels.items + length rest))
   unfolding Gathered Many
@@ -261,7 +262,7 @@ module _ (message : List ℕ) where
       → (fault ≡ NoMemory) ⊎ (HasNoName message pointers room start fault
       × ((labels : List Label) (behind : ℕ) → IsName message pointers start labels behind
       → octets labels ≤ room → ⊥))
-  told_fault pointers room start fault h = inr (h, no_name pointers room start fault h)
+  told_fault pointers room start fault h = inr (h, invalid_is_no_name pointers room start fault h)
 
   -- ... where it is passed on
   pub told_err : {A : Type 0} (pointers room start : ℕ) {fault : PartError}

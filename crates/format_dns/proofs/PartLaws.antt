@@ -7,10 +7,11 @@ use Rattle.std.proofs.Common.{refl, sym, ap, subst, inl, inr, ◌∙◌, arith, 
 use Rattle.std.proofs.Common.{length-drop}
 use Rattle.std.proofs.lemmas.List.{length-take-le, take-append-drop, take_all}
 use Rattle.format_dns.proofs.FieldLaws.{asked_length}
-use Rattle.format_dns.proofs.NameLaws.{no_name, one_behind}
-use Rattle.format_dns.specs.Names.{At}
+use Rattle.format_dns.proofs.NameLaws.{invalid_is_no_name, name_end_unique}
+use Rattle.format_dns.specs.Names.{SuffixAt}
 use Rattle.format_dns.specs.Questions.{AreQuestions, HasNoQuestion, HaveNoQuestions, IsQuestion}
-use Rattle.format_dns.specs.Questions.{PartResult, QuestionsLack, Rows, RowsFail, NextEntryFails}
+use Rattle.format_dns.specs.Questions.{PartResult, QuestionsLack, ConsecutiveParts}
+use Rattle.format_dns.specs.Questions.{ConsecutivePartsFail, NextEntryFails}
 use Rattle.format_dns.specs.declared.fault.PartError.{PartError}
 use Rattle.format_dns.specs.declared.fault.PartError.TheVariants.{NoMemory}
 use Rattle.format_dns.specs.declared.question.Question.{Question}
@@ -27,8 +28,9 @@ part_err Is Fails (Err y) is (inr (fails, none)) = inr (subst Fails (sym is) fai
 
 module _ {X : Type 0} (Is : ℕ → X → Type 0) (behind : X → ℕ) where
   -- one more after some
-  pub rows_push : (parts : List X) (start place : ℕ) (part : X) → Rows Is behind start parts place
-      → Is place part → Rows Is behind start (parts ++ part ∷ []) (behind part)
+  pub rows_push : (parts : List X) (start place : ℕ) (part : X)
+      → ConsecutiveParts Is behind start parts place
+      → Is place part → ConsecutiveParts Is behind start (parts ++ part ∷ []) (behind part)
   rows_push [] start place part e is =
       let P : ℕ → Type 0 = λ n. Is n part in (subst P e is, refl)
   rows_push (first ∷ parts) start place part (it, rows) is =
@@ -38,21 +40,23 @@ module _ {X : Type 0} (Is : ℕ → X → Type 0) (behind : X → ℕ) where
     -- if a shorter and a longer list of parts start at the same offset, the shorter is followed by
     -- another part
     pub rows_next : (parts others : List X) (start place other : ℕ)
-        → Rows Is behind start parts place → Rows Is behind start others other
+        → ConsecutiveParts Is behind start parts place
+        → ConsecutiveParts Is behind start others other
         → length parts < length others → (y : X) × Is place y
     rows_next parts [] start place other e f few = absurd (omega (arith, few))
     rows_next [] (y ∷ others) start place other e (b, more) few =
         let P : ℕ → Type 0 = λ n. Is n y in (y, subst P (sym e) b)
     rows_next (x ∷ parts) (y ∷ others) start place other (a, rows) (b, more) few =
-        let P : ℕ → Type 0 = λ n. Rows Is behind n parts place in
+        let P : ℕ → Type 0 = λ n. ConsecutiveParts Is behind n parts place in
         rows_next parts others (behind y) place other (subst P (one start x y a b) rows) more
         (omega (arith, few))
 
     -- where the next fails there are not as many
     pub rows_none : (Fails : ℕ → PartError → Type 0)
         → ((start : ℕ) (fault : PartError) (x : X) → Fails start fault → Is start x → ⊥)
-        → (start count : ℕ) (fault : PartError) → RowsFail Is behind Fails start count fault
-        → (others : List X) (other : ℕ) → Rows Is behind start others other
+        → (start count : ℕ) (fault : PartError)
+        → ConsecutivePartsFail Is behind Fails start count fault
+        → (others : List X) (other : ℕ) → ConsecutiveParts Is behind start others other
         → length others ≡ count → ⊥
     rows_none Fails never start count fault (parts, place, rows, few, fails) others other more
         many =
@@ -61,28 +65,29 @@ module _ {X : Type 0} (Is : ℕ → X → Type 0) (behind : X → ℕ) where
 
     -- equally many end at one offset
     pub rows_end : (parts others : List X) (start place other : ℕ)
-        → Rows Is behind start parts place → Rows Is behind start others other
+        → ConsecutiveParts Is behind start parts place
+        → ConsecutiveParts Is behind start others other
         → length parts ≡ length others → place ≡ other
     rows_end [] [] start place other e f same = e ∙ sym f
     rows_end [] (y ∷ others) start place other e (b, more) same = absurd (omega (arith, same))
     rows_end (x ∷ parts) [] start place other (a, rows) f same = absurd (omega (arith, same))
     rows_end (x ∷ parts) (y ∷ others) start place other (a, rows) (b, more) same =
-        let P : ℕ → Type 0 = λ n. Rows Is behind n parts place in
+        let P : ℕ → Type 0 = λ n. ConsecutiveParts Is behind n parts place in
         rows_end parts others (behind y) place other (subst P (one start x y a b) rows) more
         (omega (arith, same))
 
 pub lack_fails : {X : Type 0} (Is : ℕ → X → Type 0) (behind : X → ℕ)
     (Fails : ℕ → PartError → Type 0) (start count entry : ℕ) (fault : PartError)
     → NextEntryFails Is behind Fails start count entry fault
-    → RowsFail Is behind Fails start count fault
+    → ConsecutivePartsFail Is behind Fails start count fault
 lack_fails Is behind Fails start count entry fault (parts, place, rows, size, few, fails) =
     (parts, place, rows, omega (arith, size, few), fails)
 
 -- ---- questions
 
-pub at_from : (message : List ℕ) (place : ℕ) {tokens : List ℕ} → place ≤ length message
-    → tokens ≡ slice_range message place (length message) → At message place tokens
-at_from message place enough is = (
+pub suffix_from_slice : (message : List ℕ) (place : ℕ) {tokens : List ℕ} → place ≤ length message
+    → tokens ≡ slice_range message place (length message) → SuffixAt message place tokens
+suffix_from_slice message place enough is = (
   take place message,
   length-take-le place message enough,
   sym (take-append-drop place message)
@@ -91,24 +96,25 @@ at_from message place enough is = (
       (omega (arith, length-drop place message)))),
 )
 
-pub at_length : {message tokens : List ℕ} {place : ℕ} → At message place tokens
+pub suffix_length : {message tokens : List ℕ} {place : ℕ} → SuffixAt message place tokens
     → length message ≡ place + length tokens
-at_length {tokens = tokens} (front, size, e) =
+suffix_length {tokens = tokens} (front, size, e) =
     omega (arith, size, ap (λ l. length l) e, length-append front tokens)
 
 module _ (message : List ℕ) (pointers : ℕ) where
   pub no_question : {A : Type 0} (start : ℕ) (fault : PartError) (question : Question A)
       → HasNoQuestion message pointers start fault → IsQuestion message pointers start question → ⊥
   no_question start fault question (inl none) q =
-      no_name message pointers 254 start fault none question.name.labels.items question.name.behind
+      invalid_is_no_name message pointers 254 start fault none question.name.labels.items
+      question.name.behind
       q.name.0 q.name.1
   no_question start fault question (inr (labels, behind, name, is, short)) q =
       omega (
         arith,
         short,
-        at_length q.fields_at,
+        suffix_length q.fields_at,
         asked_length q.fields,
-        one_behind message pointers start labels question.name.labels.items behind
+        name_end_unique message pointers start labels question.name.labels.items behind
             question.name.behind name.0 q.name.0,
       )
 
@@ -120,7 +126,7 @@ module _ (message : List ℕ) (pointers : ℕ) where
         arith,
         a.behind,
         b.behind,
-        one_behind message pointers start x.name.labels.items y.name.labels.items x.name.behind
+        name_end_unique message pointers start x.name.labels.items y.name.labels.items x.name.behind
             y.name.behind a.name.0 b.name.0,
       )
 
@@ -140,8 +146,8 @@ module _ (message : List ℕ) (pointers : ℕ) where
       lack_fails (λ place (question : Question A). IsQuestion message pointers place question)
       (λ question. question.behind) (HasNoQuestion message pointers) start count entry fault lacks
 
-  pub lack_questions : {A : Type 0} (start count entry : ℕ) (fault : PartError)
+  pub lacking_is_no_questions : {A : Type 0} (start count entry : ℕ) (fault : PartError)
       (questions : Questions A) → QuestionsLack message pointers A start count entry fault
       → AreQuestions message pointers start count questions → ⊥
-  lack_questions {A} start count entry fault questions lacks =
+  lacking_is_no_questions {A} start count entry fault questions lacks =
       no_questions start count fault questions (fail_questions start count entry fault lacks)

@@ -5,13 +5,13 @@ use Rattle.std.proofs.Common.{sym, ap, subst, inl, inr, ◌∙◌, arith}
 use Rattle.grammars.specs.Grammar.Lengths.{same_beginnings}
 use Rattle.winnow_integers.specs.Integer.{value_of}
 use Rattle.winnow_integers.specs.Integer.Written.{length_written, written_value}
-use Rattle.format_dns.specs.Data.{NoForm, form_in}
+use Rattle.format_dns.specs.Data.{NoDataOfForm, form_in}
 use Rattle.format_dns.proofs.DataLaws.{no_form}
 use Rattle.format_dns.proofs.FieldLaws.{record_length}
 use Rattle.format_dns.specs.Fields.{AreRecordFields, IsField}
-use Rattle.format_dns.proofs.NameLaws.{no_name, one_behind, one_place}
-use Rattle.format_dns.specs.Names.{At}
-use Rattle.format_dns.proofs.PartLaws.{at_length, lack_fails, rows_none}
+use Rattle.format_dns.proofs.NameLaws.{invalid_is_no_name, name_end_unique, suffix_unique}
+use Rattle.format_dns.specs.Names.{SuffixAt}
+use Rattle.format_dns.proofs.PartLaws.{lack_fails, rows_none, suffix_length}
 use Rattle.format_dns.specs.Records.{AreRecords, HasNoRecord, HaveNoRecords, IsRecord}
 use Rattle.format_dns.specs.Records.{RecordsLack}
 use Rattle.format_dns.specs.declared.fault.PartError.{PartError}
@@ -47,37 +47,39 @@ module _ (message : List ℕ) (pointers : ℕ) where
   pub no_record : {A : Type 0} (start : ℕ) (fault : PartError) (it : Record A)
       → HasNoRecord message pointers start fault → IsRecord message pointers start it → ⊥
   no_record start fault it (inl none) r =
-      no_name message pointers 254 start fault none it.name.labels.items it.name.behind r.name.0
+      invalid_is_no_name message pointers 254 start fault none it.name.labels.items
+      it.name.behind r.name.0
       r.name.1
   no_record start fault it (inr (labels, behind, name, inl (is, short))) r =
       omega (
         arith,
         short,
-        at_length r.fields_at,
+        suffix_length r.fields_at,
         record_length r.fields,
-        one_behind message pointers start labels it.name.labels.items behind it.name.behind name.0
+        name_end_unique message pointers start labels it.name.labels.items behind it.name.behind
+            name.0
             r.name.0,
       )
   no_record start fault it
       (inr (labels, behind, name, inr (k, c, t, n, tokens, rest, at, fields, why))) r =
-      let there = one_behind message pointers start labels it.name.labels.items behind
+      let there = name_end_unique message pointers start labels it.name.labels.items behind
       it.name.behind name.0 r.name.0 in
-      let At2 : ℕ → Type 0 = λ b. At message b tokens in
-      let same = one_place message (subst At2 there at) r.fields_at in
+      let At2 : ℕ → Type 0 = λ b. SuffixAt message b tokens in
+      let same = suffix_unique message (subst At2 there at) r.fields_at in
       let (kind, class, size) = one_fields same fields r.fields in
       let end : behind + 10 + n ≡ it.behind = omega (arith, there, size, r.behind) in
       elim why [
         | inl (is, short) ↦ omega (arith, short, end, r.fits)
         | inr (enough, none) ↦
-            let P : ℕ → Type 0 = λ e. NoForm (take e message) pointers (behind + 10)
+            let P : ℕ → Type 0 = λ e. NoDataOfForm (take e message) pointers (behind + 10)
             (form_in k c n) fault in
-            let Q : ℕ → Type 0 = λ b. NoForm (take it.behind message) pointers (b + 10)
+            let Q : ℕ → Type 0 = λ b. NoDataOfForm (take it.behind message) pointers (b + 10)
             (form_in k c n) fault in
-            let R : ℕ → Type 0 = λ x. NoForm (take it.behind message) pointers
+            let R : ℕ → Type 0 = λ x. NoDataOfForm (take it.behind message) pointers
             (it.name.behind + 10) (form_in x c n) fault in
-            let S : ℕ → Type 0 = λ x. NoForm (take it.behind message) pointers
+            let S : ℕ → Type 0 = λ x. NoDataOfForm (take it.behind message) pointers
             (it.name.behind + 10) (form_in it.kind x n) fault in
-            let T : ℕ → Type 0 = λ x. NoForm (take it.behind message) pointers
+            let T : ℕ → Type 0 = λ x. NoDataOfForm (take it.behind message) pointers
             (it.name.behind + 10) (form_in it.kind it.class x) fault in
             no_form (take it.behind message) pointers (it.name.behind + 10)
             (form_in it.kind it.class r.size) fault it.data
@@ -88,10 +90,10 @@ module _ (message : List ℕ) (pointers : ℕ) where
   pub one_record : {A : Type 0} (start : ℕ) (x y : Record A)
       → IsRecord message pointers start x → IsRecord message pointers start y → x.behind ≡ y.behind
   one_record start x y a b =
-      let there = one_behind message pointers start x.name.labels.items y.name.labels.items
+      let there = name_end_unique message pointers start x.name.labels.items y.name.labels.items
       x.name.behind y.name.behind a.name.0 b.name.0 in
-      let At2 : ℕ → Type 0 = λ n. At message n a.tokens in
-      let same = one_place message (subst At2 there a.fields_at) b.fields_at in
+      let At2 : ℕ → Type 0 = λ n. SuffixAt message n a.tokens in
+      let same = suffix_unique message (subst At2 there a.fields_at) b.fields_at in
       let (kind, class, size) = one_fields same a.fields b.fields in
       omega (arith, a.behind, b.behind, there, size)
 
@@ -111,8 +113,9 @@ module _ (message : List ℕ) (pointers : ℕ) where
       lack_fails (λ place (it : Record A). IsRecord message pointers place it) (λ it. it.behind)
       (HasNoRecord message pointers) start count entry fault lacks
 
-  pub lack_records : {A : Type 0} (start count entry : ℕ) (fault : PartError) (records : Records A)
+  pub lacking_is_no_records : {A : Type 0} (start count entry : ℕ) (fault : PartError)
+      (records : Records A)
       → RecordsLack message pointers A start count entry fault
       → AreRecords message pointers start count records → ⊥
-  lack_records {A} start count entry fault records lacks =
+  lacking_is_no_records {A} start count entry fault records lacks =
       no_records start count fault records (fail_records start count entry fault lacks)

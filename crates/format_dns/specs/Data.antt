@@ -6,9 +6,9 @@ use Rattle.std.specs.Net.Addr.{ipv4_octets, ipv6_segments, segments_of}
 use Rattle.std.specs.declared.net.ipv4_addr.Ipv4Addr.{Ipv4Addr}
 use Rattle.std.specs.declared.net.ipv6_addr.Ipv6Addr.{Ipv6Addr}
 use Rattle.grammars.specs.Grammar.{Each, NoMatch}
-use Rattle.format_dns.specs.Fields.{AreOfService, AreOfZone, IsField}
-use Rattle.format_dns.specs.Names.{At, HasNoName, IsString, Label}
-use Rattle.format_dns.specs.Questions.{HasName, IsShort}
+use Rattle.format_dns.specs.Fields.{AreServiceFields, AreZoneFields, IsField}
+use Rattle.format_dns.specs.Names.{HasNoName, IsString, Label, SuffixAt}
+use Rattle.format_dns.specs.Questions.{HasName, IsNameWithinLimit}
 use Rattle.format_dns.specs.declared.data.Data.{Data}
 use Rattle.format_dns.specs.declared.data.Data.TheVariants.{Ipv4, Ipv6, MailExchange, Name, Other}
 use Rattle.format_dns.specs.declared.data.Data.TheVariants.{Service, StartOfAuthority, Text}
@@ -67,18 +67,18 @@ module _ (message : List ℕ) where
   -- The four octets of an address.
   abbrev pub IsIpv4 : ℕ → Ipv4Addr → Type 0
   IsIpv4 place address =
-      At message place (ipv4_octets address) × (length (ipv4_octets address) ≡ 4)
+      SuffixAt message place (ipv4_octets address) × (length (ipv4_octets address) ≡ 4)
 
   -- The sixteen octets of an address.
   abbrev pub IsIpv6 : ℕ → Ipv6Addr → Type 0
   IsIpv6 place address =
-      (octets : List ℕ) × At message place octets × (length octets ≡ 16)
+      (octets : List ℕ) × SuffixAt message place octets × (length octets ≡ 16)
       × (ipv6_segments address ≡ segments_of octets)
 
   -- One character string or more.
   pub record AreStrings (place : ℕ) (strings : List Label) : Type 0 where
     pub tokens : List ℕ
-    pub starts : At message place tokens
+    pub starts : SuffixAt message place tokens
     pub each : Each IsString tokens strings []
     pub some : 1 ≤ length strings
 
@@ -87,7 +87,8 @@ module _ (message : List ℕ) where
   NoStrings place fault =
       ((fault ≡ Ends place) × (length message ≤ place))
       ⊎ ((tokens : List ℕ) × (strings : List Label) × (end : ℕ) × (rest : List ℕ)
-      × At message place tokens × Each IsString tokens strings rest × At message end rest
+      × SuffixAt message place tokens × Each IsString tokens strings rest
+      × SuffixAt message end rest
       × NoMatch IsString rest × (1 ≤ length rest) × (fault ≡ Ends end))
 
   module _ (pointers : ℕ) where
@@ -99,14 +100,15 @@ module _ (message : List ℕ) where
     abbrev pub NoLastName : ℕ → PartError → Type 0
     NoLastName place fault =
         HasNoName message pointers 254 place fault
-        ⊎ ((labels : List Label) × (behind : ℕ) × IsShort message pointers place labels behind
+        ⊎ ((labels : List Label) × (behind : ℕ)
+        × IsNameWithinLimit message pointers place labels behind
         × (fault ≡ Trailing behind) × (behind ≡ length message → ⊥))
 
     -- A preference, and after it the name of a host.
     pub record HasMail {A : Type 0} (place : ℕ) (mail : Mails.MailExchange A) : Type 0 where
       pub tokens : List ℕ
       pub rest : List ℕ
-      pub fields_at : At message place tokens
+      pub fields_at : SuffixAt message place tokens
       pub preference : IsField 2 mail.preference tokens rest
       pub exchange : IsLastName (place + 2) mail.exchange
 
@@ -119,8 +121,8 @@ module _ (message : List ℕ) where
     pub record HasService {A : Type 0} (place : ℕ) (service : Services.Service A) : Type 0 where
       pub tokens : List ℕ
       pub rest : List ℕ
-      pub fields_at : At message place tokens
-      pub fields : AreOfService service.priority service.weight service.port tokens rest
+      pub fields_at : SuffixAt message place tokens
+      pub fields : AreServiceFields service.priority service.weight service.port tokens rest
       pub target : IsLastName (place + 6) service.target
 
     abbrev pub NoService : ℕ → PartError → Type 0
@@ -134,8 +136,8 @@ module _ (message : List ℕ) where
       pub mailbox : HasName message pointers zone.primary.behind zone.mailbox
       pub tokens : List ℕ
       pub rest : List ℕ
-      pub fields_at : At message zone.mailbox.behind tokens
-      pub fields : AreOfZone zone.serial zone.refresh zone.retry zone.expire zone.minimum tokens
+      pub fields_at : SuffixAt message zone.mailbox.behind tokens
+      pub fields : AreZoneFields zone.serial zone.refresh zone.retry zone.expire zone.minimum tokens
           rest
       pub ends : zone.mailbox.behind + 20 ≡ length message
 
@@ -144,9 +146,11 @@ module _ (message : List ℕ) where
     abbrev pub NoZone : ℕ → PartError → Type 0
     NoZone place fault =
         HasNoName message pointers 254 place fault
-        ⊎ ((labels : List Label) × (second : ℕ) × IsShort message pointers place labels second
+        ⊎ ((labels : List Label) × (second : ℕ)
+        × IsNameWithinLimit message pointers place labels second
         × (HasNoName message pointers 254 second fault
-        ⊎ ((more : List Label) × (behind : ℕ) × IsShort message pointers second more behind
+        ⊎ ((more : List Label) × (behind : ℕ)
+        × IsNameWithinLimit message pointers second more behind
         × HasOtherSize behind 20 fault)))
 
     -- Data of any form, from an offset to the end.
@@ -158,19 +162,19 @@ module _ (message : List ℕ) where
     IsDataAt place (Text strings) = AreStrings place strings.items
     IsDataAt place (StartOfAuthority zone) = HasZone place zone
     IsDataAt place (Service service) = HasService place service
-    IsDataAt place (Other octets) = At message place octets.now
+    IsDataAt place (Other octets) = SuffixAt message place octets.now
 
     -- Data of this form.
-    abbrev pub IsOfForm : {A : Type 0} → ℕ → Form → Data A → Type 0
-    IsOfForm place form held = (form_of_data held ≡ form) × IsDataAt place held
+    abbrev pub IsDataOfForm : {A : Type 0} → ℕ → Form → Data A → Type 0
+    IsDataOfForm place form held = (form_of_data held ≡ form) × IsDataAt place held
 
     -- Why no data of a form are there.
-    abbrev pub NoForm : ℕ → Form → PartError → Type 0
-    NoForm place Four fault = HasOtherSize place 4 fault
-    NoForm place Sixteen fault = HasOtherSize place 16 fault
-    NoForm place OneName fault = NoLastName place fault
-    NoForm place Mail fault = NoMail place fault
-    NoForm place Strings fault = NoStrings place fault
-    NoForm place Zone fault = NoZone place fault
-    NoForm place Host fault = NoService place fault
-    NoForm place Any fault = (fault ≡ Ends place) × (length message < place)
+    abbrev pub NoDataOfForm : ℕ → Form → PartError → Type 0
+    NoDataOfForm place Four fault = HasOtherSize place 4 fault
+    NoDataOfForm place Sixteen fault = HasOtherSize place 16 fault
+    NoDataOfForm place OneName fault = NoLastName place fault
+    NoDataOfForm place Mail fault = NoMail place fault
+    NoDataOfForm place Strings fault = NoStrings place fault
+    NoDataOfForm place Zone fault = NoZone place fault
+    NoDataOfForm place Host fault = NoService place fault
+    NoDataOfForm place Any fault = (fault ≡ Ends place) × (length message < place)

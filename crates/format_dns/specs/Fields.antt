@@ -10,7 +10,7 @@ pub record IsField (width n : ℕ) (bytes rest : List ℕ) : Type 0 where
   pub fits : n < 256 ^ width
 
 -- A question's type and class after its name.
-pub record AreAsked (k c : ℕ) (bytes rest : List ℕ) : Type 0 where
+pub record AreQuestionFields (k c : ℕ) (bytes rest : List ℕ) : Type 0 where
   pub behind_kind : List ℕ
   pub kind : IsField 2 k bytes behind_kind
   pub class : IsField 2 c behind_kind rest
@@ -26,7 +26,7 @@ pub record AreRecordFields (k c time size : ℕ) (bytes rest : List ℕ) : Type 
   pub size_field : IsField 2 size behind_time rest
 
 -- A service's priority, weight and port before its target.
-pub record AreOfService (first w p : ℕ) (bytes rest : List ℕ) : Type 0 where
+pub record AreServiceFields (first w p : ℕ) (bytes rest : List ℕ) : Type 0 where
   pub behind_priority : List ℕ
   pub priority : IsField 2 first bytes behind_priority
   pub behind_weight : List ℕ
@@ -34,7 +34,7 @@ pub record AreOfService (first w p : ℕ) (bytes rest : List ℕ) : Type 0 where
   pub port : IsField 2 p behind_weight rest
 
 -- A zone's version and its times, after its names.
-pub record AreOfZone (version fresh again end least : ℕ) (bytes rest : List ℕ) : Type 0 where
+pub record AreZoneFields (version fresh again end least : ℕ) (bytes rest : List ℕ) : Type 0 where
   pub behind_serial : List ℕ
   pub serial : IsField 4 version bytes behind_serial
   pub behind_refresh : List ℕ

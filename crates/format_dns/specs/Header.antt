@@ -11,7 +11,7 @@ use Rattle.winnow_core.specs.Short.{ShortKind}
 use Rattle.format_dns.specs.declared.header.Header.{Header}
 
 -- The bytes are a number of two bytes, the higher first, and then the rest.
-pub record IsNumber (n : ℕ) (bytes rest : List ℕ) : Type 0 where
+pub record IsTwoByteNumber (n : ℕ) (bytes rest : List ℕ) : Type 0 where
   pub splits : bytes ≡ bytes_high_first 2 n ++ rest
   pub fits : n < 65536
 
@@ -43,7 +43,7 @@ pub record AreCounts (questions answers authorities additionals : ℕ) (bytes re
 -- The bytes are a header of these fields, in their order, and then the rest.
 pub record IsHeader (h : Header) (bytes rest : List ℕ) : Type 0 where
   pub behind_id : List ℕ
-  pub id : IsNumber h.id bytes behind_id
+  pub id : IsTwoByteNumber h.id bytes behind_id
   pub behind_high : List ℕ
   pub high : IsHighByte h.is_response h.opcode h.is_authoritative h.is_truncated
       h.recursion_desired behind_id behind_high

@@ -87,17 +87,17 @@ IsNoNameEnding faults start end rest fault =
     × (((fault ≡ NotPrior end) × (start ≤ to)) ⊎ ((to < start) × faults end to fault)))
 
 module _ (message : List ℕ) where
-  -- `At place tokens`: `tokens` is the part of the message from offset `place` on.
-  abbrev pub At : ℕ → List ℕ → Type 0
-  At place tokens = (front : List ℕ) × (length front ≡ place) × (message ≡ front ++ tokens)
+  -- `SuffixAt place tokens`: `tokens` is the part of the message from offset `place` on.
+  abbrev pub SuffixAt : ℕ → List ℕ → Type 0
+  SuffixAt place tokens = (front : List ℕ) × (length front ≡ place) × (message ≡ front ++ tokens)
 
   -- `AreLabels start labels end behind`: from `start` to `end` there are consecutive `labels`,
   -- followed by the bytes `behind`, which do not start with a label.
   pub record AreLabels (start : ℕ) (labels : List Label) (end : ℕ) (behind : List ℕ) : Type 0 where
     pub tokens : List ℕ
-    pub starts : At start tokens
+    pub starts : SuffixAt start tokens
     pub each : Many IsLabel (from_to 0 None) tokens labels behind
-    pub ends : At end behind
+    pub ends : SuffixAt end behind
 
   -- a name: labels, and the ending after them
   abbrev pub NameBy : (ℕ → List Label → Type 0) → ℕ → List Label → ℕ → Type 0
@@ -114,7 +114,7 @@ module _ (message : List ℕ) where
   -- From offset `start` on there are labels, not necessarily all, with more than `room` octets.
   abbrev pub HasMore : ℕ → ℕ → Type 0
   HasMore start room =
-      (tokens : List ℕ) × (here : List Label) × (rest : List ℕ) × At start tokens
+      (tokens : List ℕ) × (here : List Label) × (rest : List ℕ) × SuffixAt start tokens
       × Each IsLabel tokens here rest × (room < octets here)
 
   -- the place is past the end, or the labels at it have more octets than there is room for, or

@@ -1,8 +1,8 @@
 -- Questions in a message (RFC 1035, section 4.1.2), and lists of consecutive parts.
 use Rattle.std.specs.Prelude.{◌≡◌, ◌⊎◌, ◌≤◌, ◌<◌, ◌+◌, ℕ, List, [], ◌∷◌, length, Result, Ok}
 use Rattle.std.specs.Prelude.{Err}
-use Rattle.format_dns.specs.Fields.{AreAsked}
-use Rattle.format_dns.specs.Names.{At, HasNoName, IsName, Label, octets}
+use Rattle.format_dns.specs.Fields.{AreQuestionFields}
+use Rattle.format_dns.specs.Names.{HasNoName, IsName, Label, SuffixAt, octets}
 use Rattle.format_dns.specs.declared.fault.PartError.{PartError}
 use Rattle.format_dns.specs.declared.fault.PartError.TheVariants.{Ends, NoMemory}
 use Rattle.format_dns.specs.declared.fault.MessageError.{MessageError}
@@ -20,15 +20,18 @@ PartResult {X} Is Fails (Err fault) =
     (fault ≡ NoMemory) ⊎ (Fails fault × ((part : X) → Is part → ⊥))
 
 -- Consecutive parts from one offset to another. `behind` gives the offset after each part.
-abbrev pub Rows : {X : Type 0} → (ℕ → X → Type 0) → (X → ℕ) → ℕ → List X → ℕ → Type 0
-Rows Is behind start [] end = end ≡ start
-Rows Is behind start (part ∷ parts) end = Is start part × Rows Is behind (behind part) parts end
+abbrev pub ConsecutiveParts : {X : Type 0} → (ℕ → X → Type 0) → (X → ℕ) → ℕ → List X → ℕ → Type 0
+ConsecutiveParts Is behind start [] end = end ≡ start
+ConsecutiveParts Is behind start (part ∷ parts) end =
+    Is start part × ConsecutiveParts Is behind (behind part) parts end
 
 -- There are fewer than `count` parts, and after them the next fails.
-abbrev pub RowsFail : {X : Type 0} → (ℕ → X → Type 0) → (X → ℕ) → (ℕ → PartError → Type 0) → ℕ → ℕ
+abbrev pub ConsecutivePartsFail : {X : Type 0} → (ℕ → X → Type 0) → (X → ℕ)
+    → (ℕ → PartError → Type 0) → ℕ → ℕ
     → PartError → Type 0
-RowsFail {X} Is behind Fails start count fault =
-    (parts : List X) × (place : ℕ) × Rows Is behind start parts place × (length parts < count)
+ConsecutivePartsFail {X} Is behind Fails start count fault =
+    (parts : List X) × (place : ℕ) × ConsecutiveParts Is behind start parts place
+    × (length parts < count)
     × Fails place fault
 
 -- Memory allocation failed, at any offset.
@@ -40,7 +43,8 @@ abbrev pub NextEntryFails : {X : Type 0} → (ℕ → X → Type 0) → (X → �
     → ℕ → ℕ
     → ℕ → PartError → Type 0
 NextEntryFails {X} Is behind Fails start count entry fault =
-    (parts : List X) × (place : ℕ) × Rows Is behind start parts place × (length parts ≡ entry)
+    (parts : List X) × (place : ℕ) × ConsecutiveParts Is behind start parts place
+    × (length parts ≡ entry)
     × (entry < count) × Fails place fault
 
 -- The contract of a section: its entries; or the number of entries before a failed allocation; or
@@ -58,26 +62,26 @@ SectionResult {X} section Is Wants Fails (Err fault) =
 abbrev pub FieldsResult : {X : Type 0} → List ℕ → ℕ → (X → List ℕ → List ℕ → Type 0) → ℕ
     → Result X PartError → Type 0
 FieldsResult message size Are place (Ok fields) =
-    (tokens : List ℕ) × (rest : List ℕ) × At message place tokens × Are fields tokens rest
+    (tokens : List ℕ) × (rest : List ℕ) × SuffixAt message place tokens × Are fields tokens rest
 FieldsResult message size Are place (Err fault) =
     (fault ≡ Ends place) × (length message < place + size)
 
 module _ (message : List ℕ) (pointers : ℕ) where
   -- The name at an offset has these labels, of at most 255 octets with the root.
-  abbrev pub IsShort : ℕ → List Label → ℕ → Type 0
-  IsShort start labels behind =
+  abbrev pub IsNameWithinLimit : ℕ → List Label → ℕ → Type 0
+  IsNameWithinLimit start labels behind =
       IsName message pointers start labels behind × (octets labels ≤ 254)
 
   abbrev pub HasName : {A : Type 0} → ℕ → Name A → Type 0
-  HasName start name = IsShort start name.labels.items name.behind
+  HasName start name = IsNameWithinLimit start name.labels.items name.behind
 
   -- At offset `start` there is a name, followed by a type and a class.
   pub record IsQuestion {A : Type 0} (start : ℕ) (question : Question A) : Type 0 where
     pub name : HasName start question.name
     pub tokens : List ℕ
     pub rest : List ℕ
-    pub fields_at : At message question.name.behind tokens
-    pub fields : AreAsked question.kind question.class tokens rest
+    pub fields_at : SuffixAt message question.name.behind tokens
+    pub fields : AreQuestionFields question.kind question.class tokens rest
     pub behind : question.behind ≡ question.name.behind + 4
 
   -- The reason why there is no question at an offset: there is no name, or the message ends within
@@ -85,20 +89,20 @@ module _ (message : List ℕ) (pointers : ℕ) where
   abbrev pub HasNoQuestion : ℕ → PartError → Type 0
   HasNoQuestion start fault =
       HasNoName message pointers 254 start fault
-      ⊎ ((labels : List Label) × (behind : ℕ) × IsShort start labels behind
+      ⊎ ((labels : List Label) × (behind : ℕ) × IsNameWithinLimit start labels behind
       × (fault ≡ Ends behind) × (length message < behind + 4))
 
   -- There are `count` consecutive questions from offset `start` on.
   abbrev pub AreQuestions : {A : Type 0} → ℕ → ℕ → Questions A → Type 0
   AreQuestions {A} start count questions =
-      Rows (λ place (question : Question A). IsQuestion place question)
+      ConsecutiveParts (λ place (question : Question A). IsQuestion place question)
       (λ question. question.behind) start questions.list.items questions.behind
       × (length questions.list.items ≡ count)
 
   -- There are fewer than `count` questions, and the next is invalid for this reason.
   abbrev pub HaveNoQuestions : Type 0 → ℕ → ℕ → PartError → Type 0
   HaveNoQuestions A =
-      RowsFail (λ place (question : Question A). IsQuestion place question)
+      ConsecutivePartsFail (λ place (question : Question A). IsQuestion place question)
       (λ question. question.behind) HasNoQuestion
 
   -- After `entry` questions, fewer than `count`, the next is invalid for this reason.

@@ -1,10 +1,10 @@
 -- Resource records in a message (RFC 1035, sections 3.2 and 4.1.3).
 use Rattle.std.specs.Prelude.{◌≡◌, ◌⊎◌, ◌≤◌, ◌<◌, ◌+◌, ℕ, List, length, take, Result}
-use Rattle.format_dns.specs.Data.{IsOfForm, NoForm, form_in}
+use Rattle.format_dns.specs.Data.{IsDataOfForm, NoDataOfForm, form_in}
 use Rattle.format_dns.specs.Fields.{AreRecordFields}
-use Rattle.format_dns.specs.Names.{At, HasNoName, Label}
-use Rattle.format_dns.specs.Questions.{HasName, IsShort, PartResult, Rows, RowsFail, NextEntryFails}
-use Rattle.format_dns.specs.Questions.{WantsMemory}
+use Rattle.format_dns.specs.Names.{HasNoName, Label, SuffixAt}
+use Rattle.format_dns.specs.Questions.{HasName, IsNameWithinLimit, PartResult, ConsecutiveParts}
+use Rattle.format_dns.specs.Questions.{ConsecutivePartsFail, NextEntryFails, WantsMemory}
 use Rattle.format_dns.specs.declared.fault.PartError.{PartError}
 use Rattle.format_dns.specs.declared.fault.PartError.TheVariants.{Ends}
 use Rattle.format_dns.specs.declared.record.Record.{Record}
@@ -18,12 +18,12 @@ module _ (message : List ℕ) (pointers : ℕ) where
     pub name : HasName message pointers start it.name
     pub tokens : List ℕ
     pub rest : List ℕ
-    pub fields_at : At message it.name.behind tokens
+    pub fields_at : SuffixAt message it.name.behind tokens
     pub size : ℕ
     pub fields : AreRecordFields it.kind it.class it.time_to_live size tokens rest
     pub behind : it.behind ≡ it.name.behind + 10 + size
     pub fits : it.behind ≤ length message
-    pub held : IsOfForm (take it.behind message) pointers (it.name.behind + 10)
+    pub held : IsDataOfForm (take it.behind message) pointers (it.name.behind + 10)
         (form_in it.kind it.class size) it.data
 
   -- The data of `size` octets are invalid: the message ends within them, or they are not of this
@@ -32,30 +32,33 @@ module _ (message : List ℕ) (pointers : ℕ) where
   HasNoData kind class start size fault =
       ((fault ≡ Ends start) × (length message < start + size))
       ⊎ ((start + size ≤ length message)
-      × NoForm (take (start + size) message) pointers start (form_in kind class size) fault)
+      × NoDataOfForm (take (start + size) message) pointers start (form_in kind class size) fault)
 
   -- The reason why there is no record at an offset: there is no name, the message ends within the
   -- fields after it, or the data are invalid.
   abbrev pub HasNoRecord : ℕ → PartError → Type 0
   HasNoRecord start fault =
       HasNoName message pointers 254 start fault
-      ⊎ ((labels : List Label) × (behind : ℕ) × IsShort message pointers start labels behind
+      ⊎ ((labels : List Label) × (behind : ℕ)
+      × IsNameWithinLimit message pointers start labels behind
       × (((fault ≡ Ends behind) × (length message < behind + 10))
       ⊎ ((kind : ℕ) × (class : ℕ) × (time : ℕ) × (size : ℕ) × (tokens : List ℕ) × (rest : List ℕ)
-      × At message behind tokens × AreRecordFields kind class time size tokens rest
+      × SuffixAt message behind tokens × AreRecordFields kind class time size tokens rest
       × HasNoData kind class (behind + 10) size fault)))
 
   -- There are `count` consecutive records from offset `start` on.
   abbrev pub AreRecords : {A : Type 0} → ℕ → ℕ → Records A → Type 0
   AreRecords {A} start count records =
-      Rows (λ place (it : Record A). IsRecord place it) (λ it. it.behind) start records.list.items
+      ConsecutiveParts (λ place (it : Record A). IsRecord place it) (λ it. it.behind) start
+      records.list.items
       records.behind
       × (length records.list.items ≡ count)
 
   -- There are fewer than `count` records, and the next is invalid for this reason.
   abbrev pub HaveNoRecords : Type 0 → ℕ → ℕ → PartError → Type 0
   HaveNoRecords A =
-      RowsFail (λ place (it : Record A). IsRecord place it) (λ it. it.behind) HasNoRecord
+      ConsecutivePartsFail (λ place (it : Record A). IsRecord place it) (λ it. it.behind)
+      HasNoRecord
 
   -- After `entry` records, fewer than `count`, the next is invalid for this reason.
   abbrev pub RecordsLack : Type 0 → ℕ → ℕ → ℕ → PartError → Type 0

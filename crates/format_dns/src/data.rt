@@ -1,9 +1,9 @@
 //! The data of records, by their types (RFC 1035, sections 3.3 and 3.4; RFC 3596; RFC 2782).
 ghost use Rattle.format_dns.specs.Data.{AreStrings, HasMail, HasOtherSize, HasService, HasZone};
-ghost use Rattle.format_dns.specs.Data.{IsIpv4, IsIpv6, IsLastName, IsOfForm, NoForm, NoLastName};
-ghost use Rattle.format_dns.specs.Data.{NoMail, NoService, NoStrings, NoZone, form_for};
+ghost use Rattle.format_dns.specs.Data.{IsIpv4, IsIpv6, IsLastName, IsDataOfForm, NoDataOfForm};
+ghost use Rattle.format_dns.specs.Data.{NoLastName, NoMail, NoService, NoStrings, NoZone, form_for};
 ghost use Rattle.format_dns.specs.Data.{empty_form, form_in, internet_form};
-ghost use Rattle.format_dns.specs.Names.{At};
+ghost use Rattle.format_dns.specs.Names.{SuffixAt};
 ghost use Rattle.format_dns.specs.Questions.{PartResult};
 ghost use Rattle.std.specs.Prelude.{◌≡◌, length};
 
@@ -154,7 +154,8 @@ pub(crate) fn form_in(kind: u16, class: u16, length: u16) -> Form
 
 /// The octets from an offset to the end, `size` of them.
 fn octets_to_end<'m>(message: &'m [u8], place: usize, size: usize) -> Result<&'m [u8], PartError>
-    ensures { PartResult (λ octets. At message.now place octets.now × (length octets.now ≡ size))
+    ensures { PartResult
+        (λ octets. SuffixAt message.now place octets.now × (length octets.now ≡ size))
         (HasOtherSize message.now place size) result }
 {
     let Some(octets) = message.get(place..) else {
@@ -302,8 +303,8 @@ pub(crate) fn read_data<'m, A: Allocator + Copy>(
     message: &'m [u8],
     place: usize,
 ) -> Result<Data<'m, A>, PartError>
-    ensures { PartResult (IsOfForm message.now pointers place form)
-        (NoForm message.now pointers place form) result }
+    ensures { PartResult (IsDataOfForm message.now pointers place form)
+        (NoDataOfForm message.now pointers place form) result }
 {
     match form {
         Form::Four => {

@@ -1,5 +1,6 @@
 //! Numbers of fixed widths in records (RFC 1035, sections 3.3.9, 3.3.13 and 4.1.3; RFC 2782).
-ghost use Rattle.format_dns.specs.Fields.{AreOfService, AreOfZone, AreRecordFields, IsField};
+ghost use Rattle.format_dns.specs.Fields.{AreRecordFields, AreServiceFields, AreZoneFields};
+ghost use Rattle.format_dns.specs.Fields.{IsField};
 ghost use Rattle.format_dns.specs.Questions.{FieldsResult};
 ghost use Rattle.std.specs.Prelude.{◌≤◌, length, IfOk, IsOk};
 
@@ -76,7 +77,7 @@ fn read_record_fields<'m>(input: &mut &'m [u8]) -> Result<RecordFields, ErrMode<
 
 /// The numbers of a service with which bytes begin.
 fn read_of_service<'m>(input: &mut &'m [u8]) -> Result<OfService, ErrMode<EmptyError>>
-    ensures fields { IfOk result (λ s. AreOfService s.priority s.weight s.port input.old.now
+    ensures fields { IfOk result (λ s. AreServiceFields s.priority s.weight s.port input.old.now
         input.new.now) }
     ensures accepts { 6 ≤ length input.old.now → IsOk result }
 {
@@ -92,7 +93,7 @@ fn read_of_service<'m>(input: &mut &'m [u8]) -> Result<OfService, ErrMode<EmptyE
 
 /// The numbers of a zone with which bytes begin.
 fn read_of_zone<'m>(input: &mut &'m [u8]) -> Result<OfZone, ErrMode<EmptyError>>
-    ensures fields { IfOk result (λ z. AreOfZone z.serial z.refresh z.retry z.expire z.minimum
+    ensures fields { IfOk result (λ z. AreZoneFields z.serial z.refresh z.retry z.expire z.minimum
         input.old.now input.new.now) }
     ensures accepts { 20 ≤ length input.old.now → IsOk result }
 {
@@ -139,7 +140,7 @@ pub(crate) fn short_at(message: &[u8], place: usize) -> Result<u16, PartError>
 
 /// Reads the numbers of a service at offset `place`.
 pub(crate) fn of_service_at(message: &[u8], place: usize) -> Result<OfService, PartError>
-    ensures { FieldsResult message.now 6 (λ s. AreOfService s.priority s.weight s.port) place
+    ensures { FieldsResult message.now 6 (λ s. AreServiceFields s.priority s.weight s.port) place
         result }
 {
     let Some(mut rest) = message.get(place..) else {
@@ -154,7 +155,7 @@ pub(crate) fn of_service_at(message: &[u8], place: usize) -> Result<OfService, P
 /// Reads the numbers of a zone at offset `place`.
 pub(crate) fn of_zone_at(message: &[u8], place: usize) -> Result<OfZone, PartError>
     ensures { FieldsResult message.now 20
-        (λ z. AreOfZone z.serial z.refresh z.retry z.expire z.minimum) place result }
+        (λ z. AreZoneFields z.serial z.refresh z.retry z.expire z.minimum) place result }
 {
     let Some(mut rest) = message.get(place..) else {
         return Err(PartError::Ends(place));

@@ -8,7 +8,7 @@ ghost use Rattle.streams.specs.Bytes.{bytes_input, bytes_reading};
 ghost use Rattle.streams.specs.Following.{most_bytes};
 ghost use Rattle.streams.specs.Input.{IsEndOf};
 ghost use Rattle.format_dns.specs.Header.{AreCounts, HasNoHeader, HasTooMany, IsHeader, IsHighByte};
-ghost use Rattle.format_dns.specs.Header.{IsLowByte, IsNumber, LacksPart};
+ghost use Rattle.format_dns.specs.Header.{IsLowByte, IsTwoByteNumber, LacksPart};
 
 use stream_errors::empty::EmptyError;
 use stream_errors::has_kind::HasKind;
@@ -127,7 +127,7 @@ fn low_flags<I: ByteStream + StreamIsPartial + Copy>(
 pub(crate) fn number<I: ByteStream + StreamIsPartial>(
     input: &mut I,
 ) -> Result<u16, ErrMode<EmptyError>>
-    ensures number { IfOk result (λ n. IsNumber n
+    ensures number { IfOk result (λ n. IsTwoByteNumber n
         (I.view input.old).left.tokens (I.view input.new).left.tokens) }
     ensures left { IfOk result (λ _. length (I.view input.old).left.tokens
         ≡ 2 + length (I.view input.new).left.tokens) }

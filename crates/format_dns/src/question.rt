@@ -1,5 +1,5 @@
 //! Questions (RFC 1035, section 4.1.2).
-ghost use Rattle.format_dns.specs.Fields.{AreAsked};
+ghost use Rattle.format_dns.specs.Fields.{AreQuestionFields};
 ghost use Rattle.format_dns.specs.Questions.{AreQuestions, FieldsResult, HasNoQuestion, IsQuestion};
 ghost use Rattle.format_dns.specs.Questions.{PartResult, QuestionsLack, QuestionsResult};
 ghost use Rattle.format_dns.specs.Questions.{QuestionsWant};
@@ -35,7 +35,7 @@ struct Asked {
 
 /// The type and the class with which bytes begin.
 fn read_asked<'m>(input: &mut &'m [u8]) -> Result<Asked, ErrMode<EmptyError>>
-    ensures fields { IfOk result (λ asked. AreAsked asked.kind asked.class input.old.now
+    ensures fields { IfOk result (λ asked. AreQuestionFields asked.kind asked.class input.old.now
         input.new.now) }
     ensures accepts { 4 ≤ length input.old.now → IsOk result }
 {
@@ -46,7 +46,8 @@ fn read_asked<'m>(input: &mut &'m [u8]) -> Result<Asked, ErrMode<EmptyError>>
 
 /// Reads the type and the class at offset `place`.
 fn asked_at(message: &[u8], place: usize) -> Result<Asked, PartError>
-    ensures { FieldsResult message.now 4 (λ asked. AreAsked asked.kind asked.class) place result }
+    ensures { FieldsResult message.now 4 (λ asked. AreQuestionFields asked.kind asked.class)
+        place result }
 {
     let Some(mut rest) = message.get(place..) else {
         return Err(PartError::Ends(place));

@@ -123,14 +123,15 @@ framing_due framing.DataEnd =
 framing_due framing.DataReturn = ([], [], 10 ∷ 48 ∷ 13 ∷ 10 ∷ 13 ∷ 10 ∷ [], (refl, empty_is))
 framing_due framing.LastReturn = ([], [], 10 ∷ [], (refl, refl, refl))
 
-pub can_go_on : (at : Place) → (content : List ℕ) × (trailers : List ℕ) × (bytes : List ℕ)
+pub every_place_is_viable : (at : Place)
+    → (content : List ℕ) × (trailers : List ℕ) × (bytes : List ℕ)
     × IsDue at content trailers bytes
-can_go_on (place.Framing at) = framing_due at
-can_go_on (place.Data size) =
+every_place_is_viable (place.Framing at) = framing_due at
+every_place_is_viable (place.Data size) =
     let (content, bytes, x) = data_due size in (content, [], bytes, x)
-can_go_on (place.Trailers at) =
+every_place_is_viable (place.Trailers at) =
     let (fields, x) = fields_due at in ([], fields, fields ++ 13 ∷ 10 ∷ [], (refl, x, refl))
-can_go_on place.Done = ([], [], [], (refl, refl, refl))
+every_place_is_viable place.Done = ([], [], [], (refl, refl, refl))
 
 -- ---- and before its end it must
 

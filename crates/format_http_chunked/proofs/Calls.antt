@@ -2,13 +2,14 @@
 use Rattle.std.specs.Prelude.{◌≡◌, ◌↔◌, ◌++◌, ℕ, List, [], ◌∷◌, length, Option, Some, None}
 use Rattle.std.specs.Prelude.{Err, Ok, Result}
 use Rattle.std.proofs.Common.{ap, arith, refl, subst, sym, ◌∙◌}
-use Rattle.format_http_chunked.proofs.Taking.{data_zero, taken_byte, taken_from}
-use Rattle.format_http_chunked.proofs.Taking.{taken_then}
-use Rattle.format_http_chunked.proofs.Turns.{both_ways}
-use Rattle.format_http_chunked.proofs.Begun.{can_go_on, fields_due}
+use Rattle.format_http_chunked.proofs.Taking.{data_zero, taken_byte, taken_from_equal_place}
+use Rattle.format_http_chunked.proofs.Taking.{taken_in_turn}
+use Rattle.format_http_chunked.proofs.Turns.{iff_trans}
+use Rattle.format_http_chunked.proofs.Begun.{every_place_is_viable, fields_due}
 use Rattle.format_http_chunked.specs.Dues.{DueFields, IsDue, IsFramingDue}
 use Rattle.format_http_chunked.specs.Room.{IsSpent, PartSpends, Spends}
-use Rattle.format_http_chunked.specs.Steps.{IsFault, IsNever, IsPart, IsSaid, IsTaken, IsViableByte}
+use Rattle.format_http_chunked.specs.Steps.{IsFault, IsPartResult, IsResult, IsTaken, IsViableByte}
+use Rattle.format_http_chunked.specs.Steps.{NoBodyContinues}
 use Rattle.format_http_chunked.specs.declared.decoder.Decoder.{Decoder}
 use Rattle.format_http_chunked.specs.declared.decoder.ChunkError.{ChunkError}
 use Rattle.format_http_chunked.specs.declared.decoder.Limits.{Limits}
@@ -40,8 +41,9 @@ fault_at at other b why e =
     let P : Framing → Type 0 = λ k. (room left : ℕ) → IsFault (place.Framing k) room left b why in
     subst P (sym e)
 
-pub never_at : (at other : Place) (b : ℕ) → at ≡ other → IsNever other b → IsNever at b
-never_at at other b e = let P : Place → Type 0 = λ k. IsNever k b in subst P (sym e)
+pub never_at : (at other : Place) (b : ℕ) → at ≡ other → NoBodyContinues other b
+    → NoBodyContinues at b
+never_at at other b e = let P : Place → Type 0 = λ k. NoBodyContinues k b in subst P (sym e)
 
 -- ---- a byte
 
@@ -51,7 +53,7 @@ pub byte_taken : (at : Place) (framing : Framing) (next : Place) (b : ℕ) (byte
     ↔ IsDue next content trailers more) → IsTaken at next bytes rest [] []
 byte_taken at framing next b bytes rest e f step =
     let P : List ℕ → Type 0 = λ l. IsTaken (place.Framing framing) next l rest [] [] in
-    taken_from at (place.Framing framing) next bytes rest [] [] e
+    taken_from_equal_place at (place.Framing framing) next bytes rest [] [] e
     (subst P (sym f) (taken_byte (place.Framing framing) next b rest step))
 
 -- ---- results
@@ -64,14 +66,14 @@ taken_alike at other new bytes rest given fields same (taken, e, f) = (
   taken,
   e,
   λ content trailers more.
-      both_ways (same content trailers _) (f content trailers more),
+      iff_trans (same content trailers _) (f content trailers more),
 )
 
 pub part_alike : (old other new : Decoder) (bytes rest : List ℕ)
     (r : Result (Option Step) ChunkError)
     → ((content trailers more : List ℕ) → IsDue old.place content trailers more
     ↔ IsDue other.place content trailers more)
-    → IsPart other new bytes rest r → IsPart old new bytes rest r
+    → IsPartResult other new bytes rest r → IsPartResult old new bytes rest r
 part_alike old other new bytes rest (Ok (Some (step.Data chunk))) same (t, x) =
     (taken_alike old.place other.place new.place bytes rest chunk.now [] same t, x)
 part_alike old other new bytes rest (Ok (Some (step.Trailers fields))) same (t, x) =
@@ -86,18 +88,18 @@ part_alike old other new bytes rest (Err why) same (t, x) =
     (taken_alike old.place other.place new.place bytes rest [] [] same t, x)
 
 pub said_then : (old mid new : Decoder) (bytes ahead rest : List ℕ) (r : Result Step ChunkError)
-    → IsTaken old.place mid.place bytes ahead [] [] → IsSaid mid new ahead rest r
-    → IsSaid old new bytes rest r
+    → IsTaken old.place mid.place bytes ahead [] [] → IsResult mid new ahead rest r
+    → IsResult old new bytes rest r
 said_then old mid new bytes ahead rest (Ok (step.Data chunk)) t (u, x) =
-    (taken_then old.place mid.place new.place bytes ahead rest chunk.now [] t u, x)
+    (taken_in_turn old.place mid.place new.place bytes ahead rest chunk.now [] t u, x)
 said_then old mid new bytes ahead rest (Ok (step.Trailers fields)) t (u, x) =
-    (taken_then old.place mid.place new.place bytes ahead rest [] fields.now t u, x)
+    (taken_in_turn old.place mid.place new.place bytes ahead rest [] fields.now t u, x)
 said_then old mid new bytes ahead rest (Ok step.End) t (u, x) =
-    (taken_then old.place mid.place new.place bytes ahead rest [] [] t u, x)
+    (taken_in_turn old.place mid.place new.place bytes ahead rest [] [] t u, x)
 said_then old mid new bytes ahead rest (Ok step.More) t (u, x, y) =
-    (taken_then old.place mid.place new.place bytes ahead rest [] [] t u, x, y)
+    (taken_in_turn old.place mid.place new.place bytes ahead rest [] [] t u, x, y)
 said_then old mid new bytes ahead rest (Err why) t (u, x) =
-    (taken_then old.place mid.place new.place bytes ahead rest [] [] t u, x)
+    (taken_in_turn old.place mid.place new.place bytes ahead rest [] [] t u, x)
 
 pub fault_from : (at : Place) (framing : Framing) (b : ℕ) (why : ChunkError)
     → at ≡ place.Framing framing
@@ -112,7 +114,7 @@ pub goes_on : (at : Place) (framing : Framing) (next : Place) (b : ℕ)
     → IsFramingDue framing content trailers (b ∷ bytes) ↔ IsDue next content trailers bytes)
     → IsViableByte at b
 goes_on at framing next b e step =
-    let (content, trailers, bytes, x) = can_go_on next in
+    let (content, trailers, bytes, x) = every_place_is_viable next in
     let P : Place → Type 0 = λ k. IsDue k content trailers (b ∷ bytes) in
     (content, trailers, bytes, subst P (sym e) ((step content trailers bytes).1 x))
 
@@ -141,10 +143,10 @@ last_goes_on at it b e f g =
     )
 
 -- if no data remain in a chunk, its line ending is expected
-pub zero_alike : (at : Place) → at ≡ place.Data 0 → (content trailers more : List ℕ)
+pub no_data_left_is_data_end : (at : Place) → at ≡ place.Data 0 → (content trailers more : List ℕ)
     → IsDue at content trailers more
     ↔ IsDue (place.Framing framing.DataEnd) content trailers more
-zero_alike at e =
+no_data_left_is_data_end at e =
     let P : Place → Type 0 = λ k. (content trailers more : List ℕ)
     → IsDue k content trailers more
     ↔ IsDue (place.Framing framing.DataEnd) content trailers more in

@@ -3,14 +3,14 @@ use Rattle.std.specs.Prelude.{◌≡◌, ◌↔◌, ◌≤◌, ◌+◌, ◌*◌,
 use Rattle.std.specs.Prelude.{suc, List, []}
 use Rattle.std.specs.Prelude.{◌∷◌, length}
 use Rattle.std.proofs.Common.{arith, refl, sym, subst, ap, ◌∙◌, length-append}
-use Rattle.format_http_chunked.proofs.Lists.{same_first, same_others}
+use Rattle.format_http_chunked.proofs.Lists.{heads_equal, tails_equal}
 use Rattle.std.specs.Char.{digit_value}
 use Rattle.std.specs.Str.Parse.{digits_value_after}
-use Rattle.format_http_chunked.proofs.Splits.{extension, line_end, star, then}
-use Rattle.format_http_chunked.proofs.Turns.{counted, extended_none}
+use Rattle.format_http_chunked.proofs.Splits.{extension, line_end, splits_then, star}
+use Rattle.format_http_chunked.proofs.Turns.{exists_iff, extended_none}
 use Rattle.format_http_chunked.specs.Bodies.{AreFields, ChunkData, ChunksAfterSize, Extended}
-use Rattle.format_http_chunked.specs.Bodies.{Extension}
-use Rattle.format_http_chunked.specs.Bodies.{IsBody, IsHexDigit, IsWhite, LineEnd, SizeLine}
+use Rattle.format_http_chunked.specs.Bodies.{Extension, IsBody, IsHexDigit, IsSpaceOrTab, LineEnd}
+use Rattle.format_http_chunked.specs.Bodies.{SizeLine}
 use Rattle.format_http_chunked.specs.Dues.{DueDigits}
 use Rattle.format_http_chunked.specs.Words.{Star}
 
@@ -59,7 +59,7 @@ behind_size (suc n) content trailers size bytes (least, (piece, more, behind, l,
 
 -- ---- digits
 
-pub hex_plain : (b : ℕ) → IsHexDigit b → (b ≡ 13 → ⊥) × (b ≡ 59 → ⊥) × (IsWhite b → ⊥)
+pub hex_plain : (b : ℕ) → IsHexDigit b → (b ≡ 13 → ⊥) × (b ≡ 59 → ⊥) × (IsSpaceOrTab b → ⊥)
 hex_plain b t = grind arith
 
 digits_grow : (number : ℕ) (digits : List ℕ) → number ≤ digits_value_after 16 number digits
@@ -81,7 +81,7 @@ module _ (next : ℕ → List ℕ → Type 0) (b : ℕ) (bytes : List ℕ) where
       there (d ∷ ds, behind, (hex, all), e, x) =
           let P : ℕ → Type 0 = λ c.
           Extended (next (digits_value_after 16 (number * 16 + digit_value c) ds)) behind in
-          (ds, behind, all, same_others e, subst P (sym (same_first e)) x)
+          (ds, behind, all, tails_equal e, subst P (sym (heads_equal e)) x)
 
       back : DueDigits (number * 16 + digit_value b) next bytes → DueDigits number next (b ∷ bytes)
       back (ds, behind, all, e, x) =
@@ -95,7 +95,7 @@ module _ (next : ℕ → List ℕ → Type 0) (b : ℕ) (bytes : List ℕ) where
       there ([], behind, all, e, x) =
           let P : List ℕ → Type 0 = λ l. Extended (next number) l in subst P (sym e) x
       there (d ∷ ds, behind, (hex, all), e, x) =
-          absurd (none (subst IsHexDigit (sym (same_first e)) hex))
+          absurd (none (subst IsHexDigit (sym (heads_equal e)) hex))
 
   pub first_digit : (value : ℕ) → value ≡ digit_value b → IsHexDigit b
       → SizeLine next (b ∷ bytes) ↔ DueDigits value next bytes
@@ -111,7 +111,7 @@ module _ (next : ℕ → List ℕ → Type 0) (b : ℕ) (bytes : List ℕ) where
           let Q : ℕ → Type 0 = λ c.
           Extended (next (digits_value_after 16 (0 * 16 + digit_value c) ds)) behind in
           subst P (sym zero_more)
-          (ds, behind, all, same_others e, subst Q (sym (same_first e)) x)
+          (ds, behind, all, tails_equal e, subst Q (sym (heads_equal e)) x)
 
       back : DueDigits value next bytes → SizeLine next (b ∷ bytes)
       back due =
@@ -122,13 +122,13 @@ module _ (next : ℕ → List ℕ → Type 0) (b : ℕ) (bytes : List ℕ) where
   pub no_digit : (IsHexDigit b → ⊥) → SizeLine next (b ∷ bytes) → ⊥
   no_digit none ([], behind, some, all, e, x) = omega (arith, some)
   no_digit none (d ∷ ds, behind, some, (hex, all), e, x) =
-      none (subst IsHexDigit (sym (same_first e)) hex)
+      none (subst IsHexDigit (sym (heads_equal e)) hex)
 
 pub too_large : (n number : ℕ) (content trailers bytes : List ℕ) → 2 ^ 64 ≤ number
     → DueDigits number (ChunksAfterSize n content trailers) bytes → 2 ^ 64 ≤ length content
 too_large n number content trailers bytes large (ds, behind, all, e, x) =
     let size : ℕ = digits_value_after 16 number ds in
-    let (rest, y, f) = then (Star Extension) LineEnd (star Extension extension) line_end
+    let (rest, y, f) = splits_then (Star Extension) LineEnd (star Extension extension) line_end
     (ChunksAfterSize n content trailers size) behind x in
     omega (arith, large, digits_grow number ds, behind_size n content trailers size rest y)
 
@@ -145,7 +145,7 @@ pub digit_goes : (number sum value b : ℕ) → value ≡ digit_value b → IsHe
     → sum ≡ number * 16 + value → (content trailers bytes : List ℕ)
     → ((n : ℕ) × DueDigits number (ChunksAfterSize n content trailers) (b ∷ bytes))
     ↔ ((n : ℕ) × DueDigits sum (ChunksAfterSize n content trailers) bytes)
-digit_goes number sum value b v is s content trailers bytes = counted (λ n.
+digit_goes number sum value b v is s content trailers bytes = exists_iff (λ n.
     let P : ℕ → Type 0 = λ k. DueDigits k (ChunksAfterSize n content trailers) bytes in
     let same : number * 16 + digit_value b ≡ sum =
     sym (s ∙ ap (λ k. number * 16 + k) v) in
@@ -156,13 +156,13 @@ pub digits_end : (number b : ℕ) → (IsHexDigit b → ⊥) → (content traile
     → ((n : ℕ) × DueDigits number (ChunksAfterSize n content trailers) (b ∷ bytes))
     ↔ ((n : ℕ) × Extended (ChunksAfterSize n content trailers number) (b ∷ bytes))
 digits_end number b none content trailers bytes =
-    counted (λ n. digits_out (ChunksAfterSize n content trailers) b bytes number none)
+    exists_iff (λ n. digits_out (ChunksAfterSize n content trailers) b bytes number none)
 
 pub size_begins : (value b : ℕ) → value ≡ digit_value b → IsHexDigit b
     → (content trailers bytes : List ℕ) → IsBody content trailers (b ∷ bytes)
     ↔ ((n : ℕ) × DueDigits value (ChunksAfterSize n content trailers) bytes)
 size_begins value b v is content trailers bytes =
-    counted (λ n. first_digit (ChunksAfterSize n content trailers) b bytes value v is)
+    exists_iff (λ n. first_digit (ChunksAfterSize n content trailers) b bytes value v is)
 
 pub size_never : (b : ℕ) → (IsHexDigit b → ⊥) → (content trailers bytes : List ℕ)
     → IsBody content trailers (b ∷ bytes) → ⊥

@@ -3,11 +3,11 @@ use Rattle.std.specs.Prelude.{◌≡◌, ◌≤◌, ◌-◌, ◌++◌, take, dro
 use Rattle.std.proofs.Common.{arith, refl, sym, subst, ap, ◌∙◌, length-append}
 use Rattle.std.proofs.lemmas.List.{take-append-drop}
 
-pub same_first : {x y : ℕ} {xs ys : List ℕ} → x ∷ xs ≡ y ∷ ys → x ≡ y
-same_first e = cc
+pub heads_equal : {x y : ℕ} {xs ys : List ℕ} → x ∷ xs ≡ y ∷ ys → x ≡ y
+heads_equal e = cc
 
-pub same_others : {x y : ℕ} {xs ys : List ℕ} → x ∷ xs ≡ y ∷ ys → xs ≡ ys
-same_others e = cc
+pub tails_equal : {x y : ℕ} {xs ys : List ℕ} → x ∷ xs ≡ y ∷ ys → xs ≡ ys
+tails_equal e = cc
 
 -- what is the first of some bytes is the first of more of them
 pub front_splits : (taken piece bytes rest : List ℕ) → length taken ≤ length piece
@@ -16,8 +16,8 @@ pub front_splits : (taken piece bytes rest : List ℕ) → length taken ≤ leng
 front_splits [] piece bytes rest less e = (piece, refl, e)
 front_splits (t ∷ ts) [] bytes rest less e = absurd (omega (arith, less))
 front_splits (t ∷ ts) (p ∷ ps) bytes rest less e =
-    let (left, f, g) = front_splits ts ps bytes rest (omega (arith, less)) (same_others e) in
-    (left, ap (λ l. p ∷ l) f ∙ ap (λ x. x ∷ (ts ++ left)) (sym (same_first e)), g)
+    let (left, f, g) = front_splits ts ps bytes rest (omega (arith, less)) (tails_equal e) in
+    (left, ap (λ l. p ∷ l) f ∙ ap (λ x. x ∷ (ts ++ left)) (sym (heads_equal e)), g)
 
 pub take_front : (front rest : List ℕ) → take (length front) (front ++ rest) ≡ front
 take_front [] [] = refl
@@ -25,9 +25,9 @@ take_front [] (b ∷ bs) = refl
 take_front (b ∷ bs) rest = ap (λ l. b ∷ l) (take_front bs rest)
 
 -- the prefix of some bytes, by the length of the rest
-pub front_is : (bytes front rest : List ℕ) (n : ℕ) → bytes ≡ front ++ rest
+pub take_prefix_by_rest : (bytes front rest : List ℕ) (n : ℕ) → bytes ≡ front ++ rest
     → n ≡ length bytes - length rest → take n bytes ≡ front
-front_is bytes front rest n e many =
+take_prefix_by_rest bytes front rest n e many =
     let size : n ≡ length front =
     omega (arith, many, ap (λ (l : List ℕ). length l) e, length-append front rest) in
     subst (λ k. take k bytes ≡ front) (sym size)

@@ -5,11 +5,12 @@ use Rattle.std.specs.Prelude.{Err, Ok}
 use Rattle.std.proofs.Common.{refl, sym, subst, ap, ◌∙◌, append_assoc, arith}
 use Rattle.std.proofs.Common.{length-append}
 use Rattle.std.proofs.lemmas.List.{append-nil}
-use Rattle.format_http_chunked.proofs.Begun.{can_go_on, must_go_on}
+use Rattle.format_http_chunked.proofs.Begun.{every_place_is_viable, must_go_on}
 use Rattle.format_http_chunked.specs.Bodies.{IsBody}
 use Rattle.format_http_chunked.specs.Decoded.{IsAnswer, IsAt, IsBodyPrefix, IsNone, IsRefusal}
 use Rattle.format_http_chunked.specs.Dues.{IsDue}
-use Rattle.format_http_chunked.specs.Steps.{IsFault, IsNever, IsSaid, IsTooLarge, IsViableByte}
+use Rattle.format_http_chunked.specs.Steps.{IsFault, IsResult, IsTooLarge, IsViableByte}
+use Rattle.format_http_chunked.specs.Steps.{NoBodyContinues}
 use Rattle.format_http_chunked.specs.declared.decoder.Decoder.{Decoder}
 use Rattle.format_http_chunked.specs.declared.decoder.ChunkError.{ChunkError}
 use Rattle.format_http_chunked.specs.declared.decoder.ChunkError.TheVariants as fault
@@ -19,8 +20,8 @@ use Rattle.format_http_chunked.specs.declared.places.Framing.TheVariants as fram
 use Rattle.format_http_chunked.specs.declared.places.Place.{Place}
 use Rattle.format_http_chunked.specs.declared.places.Place.TheVariants as place
 
-pub begins : IsAt (place.Framing framing.Start) [] [] []
-begins content trailers bytes = (
+pub starts_with_nothing_given : IsAt (place.Framing framing.Start) [] [] []
+starts_with_nothing_given content trailers bytes = (
   λ x. (content, trailers, refl, refl, x),
   λ (left, others, c, t, x).
       let P : List ℕ → Type 0 = λ l. IsBody l trailers bytes in
@@ -61,7 +62,7 @@ module _ (front given fields : List ℕ) where
     -- some more bytes make it a body
     begun : IsBodyPrefix front given fields
     begun =
-        let (content, trailers, bytes, x) = can_go_on at in (
+        let (content, trailers, bytes, x) = every_place_is_viable at in (
           content,
           trailers,
           bytes,
@@ -69,7 +70,7 @@ module _ (front given fields : List ℕ) where
               (content, trailers, refl, refl, x),
         )
 
-    none_goes_on : (b : ℕ) → IsNever at b → IsNone (front ++ b ∷ [])
+    none_goes_on : (b : ℕ) → NoBodyContinues at b → IsNone (front ++ b ∷ [])
     none_goes_on b never content trailers more x =
         let P : List ℕ → Type 0 = λ l. IsBody content trailers l in
         let (left, others, c, t, y) = (is content trailers (b ∷ more)).0
@@ -133,7 +134,7 @@ module _ (front given fields : List ℕ) where
       (at, some_goes_on decoder.place is b on, no_room)
 
 pub told : (old new : Decoder) (bytes rest : List ℕ) (r : Result Step ChunkError)
-    → IsSaid old new bytes rest r → (front given fields : List ℕ)
+    → IsResult old new bytes rest r → (front given fields : List ℕ)
     → IsAt old.place front given fields → IsAnswer new front given fields bytes rest r
 told old new bytes rest (Ok (step.Data chunk)) ((taken, e, f), some) front given fields is = (
   taken,

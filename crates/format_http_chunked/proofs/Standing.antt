@@ -1,7 +1,7 @@
 -- Lemmas about the position of the output in the bytes, if a part of a call saw only some of them.
 use Rattle.std.specs.Prelude.{◌≡◌, ◌++◌, ◌∷◌, ◌-◌, ℕ, List, length, take, Result}
 use Rattle.std.proofs.Common.{ap, append_assoc, refl, sym, ◌∙◌}
-use Rattle.format_http_chunked.proofs.Lists.{front_is}
+use Rattle.format_http_chunked.proofs.Lists.{take_prefix_by_rest}
 use Rattle.format_http_chunked.specs.Decoded.{content_of, trailers_of}
 use Rattle.format_http_chunked.specs.Outputs.{OutputBeforeRest}
 use Rattle.format_http_chunked.specs.declared.decoder.ChunkError.{ChunkError}
@@ -22,4 +22,4 @@ pub front_before : (b : ℕ) (bytes ahead rest fields front : List ℕ) → byte
     → bytes ≡ front ++ rest
 front_before b bytes ahead rest fields front e f cut =
     let all : bytes ≡ (b ∷ fields) ++ rest = e ∙ ap (λ l. b ∷ l) f in
-    all ∙ ap (λ l. l ++ rest) (sym (cut ∙ front_is bytes (b ∷ fields) rest _ all refl))
+    all ∙ ap (λ l. l ++ rest) (sym (cut ∙ take_prefix_by_rest bytes (b ∷ fields) rest _ all refl))

@@ -4,13 +4,14 @@ use Rattle.std.specs.Prelude.{◌∷◌}
 use Rattle.std.specs.Prelude.{length, take}
 use Rattle.std.proofs.Common.{inl, inr, arith, refl, sym, subst, ap, ◌∙◌, append_assoc}
 use Rattle.std.proofs.Common.{length-append}
-use Rattle.format_http_chunked.proofs.Lists.{front_is, front_splits, same_first, same_others}
-use Rattle.format_http_chunked.proofs.Splits.{field_line, opens}
-use Rattle.format_http_chunked.proofs.Turns.{both_ways, right_only, token_plain}
+use Rattle.format_http_chunked.proofs.Lists.{front_splits, heads_equal, tails_equal}
+use Rattle.format_http_chunked.proofs.Lists.{take_prefix_by_rest}
+use Rattle.format_http_chunked.proofs.Splits.{field_line, star_unfolds}
+use Rattle.format_http_chunked.proofs.Turns.{either_iff_right, iff_trans, token_plain}
 use Rattle.format_http_chunked.specs.Bodies.{AreFields, FieldLine, IsBody, IsTokenByte}
 use Rattle.format_http_chunked.specs.Bodies.{LineEnd}
 use Rattle.format_http_chunked.specs.Dues.{DueFields, IsDue, IsFramingDue}
-use Rattle.format_http_chunked.specs.Steps.{ArePassed, IsNever, IsTaken}
+use Rattle.format_http_chunked.specs.Steps.{ArePassed, IsTaken, NoBodyContinues}
 use Rattle.format_http_chunked.specs.declared.places.Framing.TheVariants as framing
 use Rattle.format_http_chunked.specs.declared.places.InField.{InField}
 use Rattle.format_http_chunked.specs.declared.places.InField.TheVariants as field
@@ -19,8 +20,8 @@ use Rattle.format_http_chunked.specs.declared.places.Place.TheVariants as place
 
 -- ---- in general
 
-pub taken_none : (at : Place) (bytes : List ℕ) → IsTaken at at bytes bytes [] []
-taken_none at bytes = (
+pub takes_nothing : (at : Place) (bytes : List ℕ) → IsTaken at at bytes bytes [] []
+takes_nothing at bytes = (
   [],
   refl,
   λ content trailers more. (
@@ -32,10 +33,10 @@ taken_none at bytes = (
   ),
 )
 
-pub taken_then : (at mid next : Place) (bytes ahead rest given fields : List ℕ)
+pub taken_in_turn : (at mid next : Place) (bytes ahead rest given fields : List ℕ)
     → IsTaken at mid bytes ahead [] [] → IsTaken mid next ahead rest given fields
     → IsTaken at next bytes rest given fields
-taken_then at mid next bytes ahead rest given fields (xs, e, f) (ys, d, g) = (
+taken_in_turn at mid next bytes ahead rest given fields (xs, e, f) (ys, d, g) = (
   xs ++ ys,
   e ∙ ap (λ l. xs ++ l) d ∙ sym (append_assoc xs ys rest),
   λ content trailers more.
@@ -175,12 +176,12 @@ passed_byte at next b step plain content trailers more = (there trailers, back)
     there : (trailers : List ℕ) → IsDue (place.Trailers at) content trailers (b ∷ more)
         → (others : List ℕ) × (trailers ≡ b ∷ others)
         × IsDue (place.Trailers next) content others more
-    there [] (c, due, e) = absurd (plain (none_due at due) (same_first e))
+    there [] (c, due, e) = absurd (plain (none_due at due) (heads_equal e))
     there (t ∷ ts) (c, due, e) =
         let P : ℕ → Type 0 = λ k. DueFields at (k ∷ ts) in (
           ts,
-          ap (λ k. k ∷ ts) (sym (same_first e)),
-          (c, (step ts).0 (subst P (sym (same_first e)) due), same_others e),
+          ap (λ k. k ∷ ts) (sym (heads_equal e)),
+          (c, (step ts).0 (subst P (sym (heads_equal e)) due), tails_equal e),
         )
 
     back : ((others : List ℕ) × (trailers ≡ b ∷ others)
@@ -214,13 +215,13 @@ no_list b bytes e = omega (arith, ap (λ (l : List ℕ). length l) e)
 -- a name begins
 pub name_begins : (b : ℕ) (fields : List ℕ) → IsTokenByte b → DueFields field.Start (b ∷ fields)
     ↔ DueFields field.Name fields
-name_begins b fields is = both_ways
-    (opens FieldLine field_line (λ behind. behind ≡ []) (b ∷ fields))
-    (right_only (λ e. no_list b fields e) (λ x. x.1, λ x. (is, x)))
+name_begins b fields is = iff_trans
+    (star_unfolds FieldLine field_line (λ behind. behind ≡ []) (b ∷ fields))
+    (either_iff_right (λ e. no_list b fields e) (λ x. x.1, λ x. (is, x)))
 
 no_name : (b : ℕ) (fields : List ℕ) → (IsTokenByte b → ⊥) → AreFields (b ∷ fields) → ⊥
 no_name b fields none x =
-    due ((opens FieldLine field_line (λ behind. behind ≡ []) (b ∷ fields)).0 x)
+    due ((star_unfolds FieldLine field_line (λ behind. behind ≡ []) (b ∷ fields)).0 x)
   where
     due : (b ∷ fields ≡ []) ⊎ FieldLine AreFields (b ∷ fields) → ⊥
     due (inl e) = no_list b fields e
@@ -234,9 +235,9 @@ fields_end content trailers bytes = (there trailers, back)
   where
     there : (trailers : List ℕ) → IsDue (place.Trailers field.Start) content trailers (13 ∷ bytes)
         → IsFramingDue framing.LastReturn content trailers bytes
-    there [] (c, due, e) = (c, refl, same_others e)
+    there [] (c, due, e) = (c, refl, tails_equal e)
     there (t ∷ ts) (c, due, e) =
-        absurd (no_name t ts (λ is. (token_plain t is).0 (sym (same_first e))) due)
+        absurd (no_name t ts (λ is. (token_plain t is).0 (sym (heads_equal e))) due)
 
     back : IsFramingDue framing.LastReturn content trailers bytes
         → IsDue (place.Trailers field.Start) content trailers (13 ∷ bytes)
@@ -246,12 +247,12 @@ fields_end content trailers bytes = (there trailers, back)
 
 -- no field line continues with this byte
 pub fields_never : (at : InField) (b : ℕ) → ((fields : List ℕ) → DueFields at (b ∷ fields) → ⊥)
-    → (at ≡ field.Start → b ≡ 13 → ⊥) → IsNever (place.Trailers at) b
+    → (at ≡ field.Start → b ≡ 13 → ⊥) → NoBodyContinues (place.Trailers at) b
 fields_never at b none plain content [] bytes (c, due, e) =
-    plain (none_due at due) (same_first e)
+    plain (none_due at due) (heads_equal e)
 fields_never at b none plain content (t ∷ ts) bytes (c, due, e) =
     let P : ℕ → Type 0 = λ k. DueFields at (k ∷ ts) in
-    none ts (subst P (sym (same_first e)) due)
+    none ts (subst P (sym (heads_equal e)) due)
 
 pub name_begins_at : (at : InField) (b : ℕ) → at ≡ field.Start → IsTokenByte b
     → (fields : List ℕ) → DueFields at (b ∷ fields) ↔ DueFields field.Name fields
@@ -261,9 +262,9 @@ name_begins_at at b e is fields =
 
 -- ---- calls
 
-pub taken_from : (at other new : Place) (bytes rest given fields : List ℕ) → at ≡ other
+pub taken_from_equal_place : (at other new : Place) (bytes rest given fields : List ℕ) → at ≡ other
     → IsTaken other new bytes rest given fields → IsTaken at new bytes rest given fields
-taken_from at other new bytes rest given fields e =
+taken_from_equal_place at other new bytes rest given fields e =
     let P : Place → Type 0 = λ p. IsTaken p new bytes rest given fields in subst P (sym e)
 
 pub taken_chunk : (size here : ℕ) (bytes front back : List ℕ) → bytes ≡ front ++ back
@@ -317,7 +318,7 @@ pub passed_front : (at mid next : InField) (b : ℕ) (bytes ahead rest front : L
     → IsTaken (place.Trailers at) (place.Trailers next) bytes rest [] front × (0 < length front)
 passed_front at mid next b bytes ahead rest front step plain e (fields, f, passed) cut =
     let is : front ≡ b ∷ fields =
-    cut ∙ front_is bytes (b ∷ fields) rest _ (e ∙ ap (λ l. b ∷ l) f) refl in
+    cut ∙ take_prefix_by_rest bytes (b ∷ fields) rest _ (e ∙ ap (λ l. b ∷ l) f) refl in
     let P : List ℕ → Type 0 = λ l.
     IsTaken (place.Trailers at) (place.Trailers next) bytes rest [] l in (
       subst P (sym is) (passed_on at mid next b bytes fields ahead rest step plain passed e f),

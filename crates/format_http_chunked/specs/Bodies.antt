@@ -13,8 +13,8 @@ abbrev pub IsHexDigit : ℕ → Type 0
 IsHexDigit b = IsBetween 48 57 b ⊎ (IsBetween 65 70 b ⊎ IsBetween 97 102 b)
 
 -- SP / HTAB
-abbrev pub IsWhite : ℕ → Type 0
-IsWhite b = (b ≡ 32) ⊎ (b ≡ 9)
+abbrev pub IsSpaceOrTab : ℕ → Type 0
+IsSpaceOrTab b = (b ≡ 32) ⊎ (b ≡ 9)
 
 -- tchar (RFC 9110, section 5.6.2)
 abbrev pub IsTokenByte : ℕ → Type 0
@@ -42,7 +42,7 @@ LineEnd next = Byte 13 (Byte 10 next)
 
 -- BWS byte BWS
 abbrev pub Spaced : ℕ → (List ℕ → Type 0) → List ℕ → Type 0
-Spaced byte next = Many IsWhite (Byte byte (Many IsWhite next))
+Spaced byte next = Many IsSpaceOrTab (Byte byte (Many IsSpaceOrTab next))
 
 -- qdtext / quoted-pair, where quoted-pair = "\" ( HTAB / SP / VCHAR / obs-text )
 abbrev pub QuotedByte : (List ℕ → Type 0) → List ℕ → Type 0

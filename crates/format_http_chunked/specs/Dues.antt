@@ -4,9 +4,9 @@ use Rattle.std.specs.Prelude.{◌≡◌, ◌⊎◌, ◌++◌, ℕ, List, [], ◌
 use Rattle.std.specs.List.{AllByRecursion}
 use Rattle.std.specs.Str.Parse.{digits_value_after}
 use Rattle.format_http_chunked.specs.Bodies.{AreFields, ChunkData, ChunksAfterSize, Extended}
-use Rattle.format_http_chunked.specs.Bodies.{Extension}
-use Rattle.format_http_chunked.specs.Bodies.{Given, IsBody, IsHexDigit, IsTokenByte, IsValueByte}
-use Rattle.format_http_chunked.specs.Bodies.{IsWhite, LineEnd, QuotedByte, Spaced, Value}
+use Rattle.format_http_chunked.specs.Bodies.{Extension, Given, IsBody, IsHexDigit, IsSpaceOrTab}
+use Rattle.format_http_chunked.specs.Bodies.{IsTokenByte, IsValueByte, LineEnd, QuotedByte, Spaced}
+use Rattle.format_http_chunked.specs.Bodies.{Value}
 use Rattle.format_http_chunked.specs.Words.{Byte, Many, One, Some, Star}
 use Rattle.format_http_chunked.specs.declared.places.Framing.{Framing}
 use Rattle.format_http_chunked.specs.declared.places.Framing.TheVariants as framing
@@ -21,11 +21,11 @@ use Rattle.format_http_chunked.specs.declared.places.Place.TheVariants as place
 abbrev pub DueInLine : InLine → (List ℕ → Type 0) → List ℕ → Type 0
 DueInLine line.AfterSize next = Extended next
 DueInLine line.White next = Extension (Extended next)
-DueInLine line.Semicolon next = Many IsWhite (Some IsTokenByte (Given (Extended next)))
+DueInLine line.Semicolon next = Many IsSpaceOrTab (Some IsTokenByte (Given (Extended next)))
 DueInLine line.Name next = Many IsTokenByte (Given (Extended next))
 DueInLine line.NameWhite next = λ bytes.
     Spaced 61 (Value (Extended next)) bytes ⊎ Extension (Extended next) bytes
-DueInLine line.Equals next = Many IsWhite (Value (Extended next))
+DueInLine line.Equals next = Many IsSpaceOrTab (Value (Extended next))
 DueInLine line.Token next = Many IsTokenByte (Extended next)
 DueInLine line.Quotes next = Star QuotedByte (Byte 34 (Extended next))
 DueInLine line.Escape next = One IsValueByte (Star QuotedByte (Byte 34 (Extended next)))

@@ -31,8 +31,9 @@ IsTurn at size byte Never =
     (content trailers bytes : List ℕ) → IsFramingDue at content trailers (byte ∷ bytes) → ⊥
 
 -- No body continues with the byte in this state.
-abbrev pub IsNever : Place → ℕ → Type 0
-IsNever at byte = (content trailers bytes : List ℕ) → IsDue at content trailers (byte ∷ bytes) → ⊥
+abbrev pub NoBodyContinues : Place → ℕ → Type 0
+NoBodyContinues at byte =
+    (content trailers bytes : List ℕ) → IsDue at content trailers (byte ∷ bytes) → ⊥
 
 -- Each body that continues with the byte in this state has at least 2 ^ 64 bytes of content.
 abbrev pub IsTooLarge : Place → ℕ → Type 0
@@ -86,13 +87,13 @@ IsBetweenData at byte =
 -- `left` more of trailers: no body continues with it; or none of less than 2 ^ 64 bytes; or some
 -- body does, and a limit is exceeded.
 abbrev pub IsFault : Place → ℕ → ℕ → ℕ → ChunkError → Type 0
-IsFault at room left byte fault.Size = (at ≡ place.Framing framing.Start) × IsNever at byte
-IsFault at room left byte fault.SizeLine = IsInSizeLine at × IsNever at byte
+IsFault at room left byte fault.Size = (at ≡ place.Framing framing.Start) × NoBodyContinues at byte
+IsFault at room left byte fault.SizeLine = IsInSizeLine at × NoBodyContinues at byte
 IsFault at room left byte fault.SizeTooLarge = IsDigitAt at byte × IsTooLarge at byte
 IsFault at room left byte fault.SizeLineTooLong =
     IsBetweenData at byte × IsViableByte at byte × (room ≡ 0)
-IsFault at room left byte fault.DataEnd = IsAtDataEnd at × IsNever at byte
-IsFault at room left byte fault.Trailers = IsInTrailers at × IsNever at byte
+IsFault at room left byte fault.DataEnd = IsAtDataEnd at × NoBodyContinues at byte
+IsFault at room left byte fault.Trailers = IsInTrailers at × NoBodyContinues at byte
 IsFault at room left byte fault.TrailersTooLong =
     IsTrailerByte at byte × IsViableByte at byte × (left ≡ 0)
 
@@ -116,22 +117,23 @@ IsTaken old new bytes rest given fields =
     × (trailers ≡ fields ++ others) × IsDue new left others more))
 
 -- The result of the decoder for the bytes that it consumes.
-abbrev pub IsSaid : Decoder → Decoder → List ℕ → List ℕ → Result Step ChunkError → Type 0
-IsSaid old new bytes rest (Ok (step.Data chunk)) =
+abbrev pub IsResult : Decoder → Decoder → List ℕ → List ℕ → Result Step ChunkError → Type 0
+IsResult old new bytes rest (Ok (step.Data chunk)) =
     IsTaken old.place new.place bytes rest chunk.now [] × (0 < length chunk.now)
-IsSaid old new bytes rest (Ok (step.Trailers fields)) =
+IsResult old new bytes rest (Ok (step.Trailers fields)) =
     IsTaken old.place new.place bytes rest [] fields.now × (0 < length fields.now)
-IsSaid old new bytes rest (Ok step.End) =
+IsResult old new bytes rest (Ok step.End) =
     IsTaken old.place new.place bytes rest [] [] × (new.place ≡ place.Done)
-IsSaid old new bytes rest (Ok step.More) =
+IsResult old new bytes rest (Ok step.More) =
     IsTaken old.place new.place bytes rest [] [] × (rest ≡ []) × (new.place ≡ place.Done → ⊥)
-IsSaid old new bytes rest (Err fault) =
+IsResult old new bytes rest (Err fault) =
     IsTaken old.place new.place bytes rest [] [] × ((byte : ℕ) × (others : List ℕ)
     × (rest ≡ byte ∷ others) × IsFault new.place new.room new.trailer_room byte fault)
 
--- Like `IsSaid`, for a part of a call, which may not have a result yet.
-abbrev pub IsPart : Decoder → Decoder → List ℕ → List ℕ → Result (Option Step) ChunkError → Type 0
-IsPart old new bytes rest (Ok (Some said)) = IsSaid old new bytes rest (Ok said)
-IsPart old new bytes rest (Ok None) =
+-- Like `IsResult`, for a part of a call, which may not have a result yet.
+abbrev pub IsPartResult : Decoder → Decoder → List ℕ → List ℕ → Result (Option Step) ChunkError
+    → Type 0
+IsPartResult old new bytes rest (Ok (Some said)) = IsResult old new bytes rest (Ok said)
+IsPartResult old new bytes rest (Ok None) =
     IsTaken old.place new.place bytes rest [] [] × (length rest < length bytes)
-IsPart old new bytes rest (Err why) = IsSaid old new bytes rest (Err why)
+IsPartResult old new bytes rest (Err why) = IsResult old new bytes rest (Err why)

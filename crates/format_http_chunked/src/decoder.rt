@@ -18,7 +18,7 @@ ghost use Rattle.format_http_chunked.specs.Decoded.{IsAnswer, IsAt};
 ghost use Rattle.format_http_chunked.specs.Room.{IsSpent, PartSpends, Spends};
 ghost use Rattle.format_http_chunked.specs.Outputs.{OutputBeforeRest, PartBeforeRest};
 ghost use Rattle.format_http_chunked.specs.State.{decoder_of};
-ghost use Rattle.format_http_chunked.specs.Steps.{IsPart, IsSaid, IsTaken};
+ghost use Rattle.format_http_chunked.specs.Steps.{IsPartResult, IsResult, IsTaken};
 ghost use Rattle.format_http_chunked.specs.declared.places.Framing.TheVariants as framing;
 ghost use Rattle.format_http_chunked.specs.declared.places.Place.TheVariants as place;
 ghost use Rattle.std.specs.Prelude.{◌≡◌, ◌<◌, Ok, ℕ, List, []};
@@ -214,7 +214,7 @@ impl Decoder {
         input: &mut &'i [u8],
     ) -> Result<Option<Step<'i>>, ChunkError>
         requires { self.old.place ≡ place.Framing at }
-        ensures told { IsPart self.old self.new input.old.now input.new.now result }
+        ensures told { IsPartResult self.old self.new input.old.now input.new.now result }
         ensures spent { PartSpends self.old self.new input.old.now input.new.now result }
         ensures stands { PartBeforeRest input.old.now input.new.now result }
     {
@@ -259,7 +259,7 @@ impl Decoder {
     fn pass_data<'i>(&mut self, size: u64, input: &mut &'i [u8]) -> Step<'i>
         requires due { self.old.place ≡ place.Data size }
         requires some { 0 < size }
-        ensures told { IsSaid self.old self.new input.old.now input.new.now (Ok result) }
+        ensures told { IsResult self.old self.new input.old.now input.new.now (Ok result) }
         ensures spent { Spends self.old self.new input.old.now input.new.now (Ok result) }
         ensures stands { OutputBeforeRest input.old.now input.new.now (Ok result) }
     {
@@ -282,7 +282,7 @@ impl Decoder {
         input: &mut &'i [u8],
     ) -> Result<Option<Step<'i>>, ChunkError>
         requires { self.old.place ≡ place.Trailers at }
-        ensures told { IsPart self.old self.new input.old.now input.new.now result }
+        ensures told { IsPartResult self.old self.new input.old.now input.new.now result }
         ensures spent { PartSpends self.old self.new input.old.now input.new.now result }
         ensures stands { PartBeforeRest input.old.now input.new.now result }
     {
@@ -321,7 +321,7 @@ impl Decoder {
     /// Takes some of the bytes that are there.
     #[inline(always)]
     fn part<'i>(&mut self, input: &mut &'i [u8]) -> Result<Option<Step<'i>>, ChunkError>
-        ensures told { IsPart self.old self.new input.old.now input.new.now result }
+        ensures told { IsPartResult self.old self.new input.old.now input.new.now result }
         ensures spent { PartSpends self.old self.new input.old.now input.new.now result }
         ensures stands { PartBeforeRest input.old.now input.new.now result }
     {
@@ -342,7 +342,7 @@ impl Decoder {
     /// Consumes bytes up to the next result.
     #[inline(always)]
     fn run<'i>(&mut self, input: &mut &'i [u8]) -> Result<Step<'i>, ChunkError>
-        ensures told { IsSaid self.old self.new input.old.now input.new.now result }
+        ensures told { IsResult self.old self.new input.old.now input.new.now result }
         ensures spent { Spends self.old self.new input.old.now input.new.now result }
         ensures stands { OutputBeforeRest input.old.now input.new.now result }
     {

@@ -4,8 +4,9 @@ use Rattle.std.specs.List.{All}
 use Rattle.std.proofs.Common.{refl, sym, ap, subst, inl, inr, ◌∙◌, arith, append_assoc}
 use Rattle.std.proofs.lemmas.List.{append_cancel_left}
 use Rattle.std.proofs.lemmas.List.Elements.{All-head, All-nil, All-tail}
-use Rattle.format_ini.specs.Front.{IsOther, NotFirst, StartsWith}
-use Rattle.format_ini.specs.Lines.{IsHead, IsLooseSection, IsSection, NoHead, NoLoose}
+use Rattle.format_ini.specs.Front.{IsNotByte, NotFirst, StartsWith}
+use Rattle.format_ini.specs.Lines.{IsLooseSection, IsSection, IsSectionHead, NoLooseSection}
+use Rattle.format_ini.specs.Lines.{NoSectionHead}
 use Rattle.format_ini.specs.Marks.{IsBlank}
 use Rattle.format_ini.specs.Places.{InBrackets}
 use Rattle.format_ini.specs.declared.dialect.Dialect.{Dialect}
@@ -96,8 +97,8 @@ loose_one text name other (r, e, all, some) (s, f, too, more) =
     last_stop_is_unique (λ b. b ≡ 93) name other 93 93 r s all too refl refl h
 
 -- a text is the head of one section, or of none
-pub section_head_is_unique : (d : Dialect) (text name other : List ℕ) → IsHead d text name
-    → IsHead d text other
+pub section_head_is_unique : (d : Dialect) (text name other : List ℕ) → IsSectionHead d text name
+    → IsSectionHead d text other
     → name ≡ other
 section_head_is_unique d text name other (inl (so, is)) (inl (so', at)) =
     section_one text name other is at
@@ -106,14 +107,14 @@ section_head_is_unique d text name other (inr (so, is)) (inl (so', at)) = absurd
 section_head_is_unique d text name other (inr (so, is)) (inr (so', at)) =
     loose_one text name other is at
 
-not_loose : (text name : List ℕ) → IsLooseSection text name → NoLoose text → ⊥
+not_loose : (text name : List ℕ) → IsLooseSection text name → NoLooseSection text → ⊥
 not_loose text [] (r, e, all, some) (first, none) = omega (arith, some)
 not_loose text (b ∷ name) (r, e, all, some) (first, none) =
-    let P : List ℕ → Type 0 = λ l. All (IsOther 93) (drop 2 l) in
+    let P : List ℕ → Type 0 = λ l. All (IsNotByte 93) (drop 2 l) in
     no_stop (λ b. b ≡ 93) (name ++ (93 ∷ r)) name 93 r (subst P e none) refl refl
 
-pub head_excludes_no_head : (d : Dialect) (text name : List ℕ) → IsHead d text name
-    → NoHead d text → ⊥
+pub head_excludes_no_head : (d : Dialect) (text name : List ℕ) → IsSectionHead d text name
+    → NoSectionHead d text → ⊥
 head_excludes_no_head d text name (inl (so, (e, all, some))) (inl not) =
     both_first (λ b. b ≡ 91) text (section_first text name [] e) not
 head_excludes_no_head d text name (inl (so, is)) (inr (so', none)) = unlike so so'
@@ -124,16 +125,16 @@ head_excludes_no_head d text name (inr (so, is)) (inr (so', none)) = not_loose t
 -- ---- what a text that starts with a bracket is
 
 pub loose_none : (text inside : List ℕ) → StartsWith (λ b. b ≡ 91) text → inside ≡ drop 1 text
-    → All (λ b. b ≡ 93 → ⊥) inside → NoLoose text
+    → All (λ b. b ≡ 93 → ⊥) inside → NoLooseSection text
 loose_none [] inside first is none = absurd first
-loose_none (b ∷ []) inside first is none = (first, All-nil (IsOther 93))
+loose_none (b ∷ []) inside first is none = (first, All-nil (IsNotByte 93))
 loose_none (b ∷ (c ∷ bs)) inside first is none =
-    let P : List ℕ → Type 0 = λ l. All (IsOther 93) l in
-    (first, All-tail (IsOther 93) c bs (subst P is none))
+    let P : List ℕ → Type 0 = λ l. All (IsNotByte 93) l in
+    (first, All-tail (IsNotByte 93) c bs (subst P is none))
 
 -- where a name begins
 pub head_is_in_brackets : (d : Dialect) (from : ℕ) (text name : List ℕ) (place : ℕ)
-    → IsHead d text name
+    → IsSectionHead d text name
     → place ≡ from + 1 → InBrackets from text name place
 head_is_in_brackets d from text name place (inl (so, (e, all, some))) p =
     ([], [], e, All-nil IsBlank, omega (arith, p))

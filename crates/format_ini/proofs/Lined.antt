@@ -2,9 +2,9 @@
 use Rattle.std.specs.Prelude.{◌≡◌, ◌<◌, ℕ, List, [], ◌∷◌, length, Result, Ok, Err, MatchResult}
 use Rattle.std.proofs.Common.{ap, subst, inl, inr, arith, refl, sym, ◌∙◌}
 use Rattle.std.specs.Prelude.{Bool, true, false}
-use Rattle.format_ini.specs.Front.{IsKept, NotFirst, indent_of, trimmed}
-use Rattle.format_ini.specs.Lines.{IsIdle, Lacks, LacksOwn, OwnSays, Step, is_deeper}
-use Rattle.format_ini.specs.Lines.{more, said_of}
+use Rattle.format_ini.specs.Front.{IsWithoutComment, NotFirst, indent_of, trimmed}
+use Rattle.format_ini.specs.Lines.{IsIdle, IsInvalidFor, OwnLineIsInvalid, OwnLineMeans, Step}
+use Rattle.format_ini.specs.Lines.{is_deeper, more, said_of}
 use Rattle.format_ini.specs.Marks.{IsMark}
 use Rattle.format_ini.specs.declared.dialect.Dialect.{Dialect}
 use Rattle.format_ini.specs.declared.lines.Line.{Line}
@@ -24,7 +24,7 @@ other {b} e f = cc
 
 -- the meaning of a line that continues
 pub more_line : (d : Dialect) (s : State) (line kept text : List ℕ) (depth : ℕ) (on : Bool)
-    → IsKept d.inline_comments line kept → text ≡ trimmed kept → depth ≡ indent_of line
+    → IsWithoutComment d.inline_comments line kept → text ≡ trimmed kept → depth ≡ indent_of line
     → on ≡ is_deeper s.pair depth → on ≡ true → 0 < length text
     → NotFirst (IsMark d.comments) text → Step d s line (more text ∷ []) s
 more_line d s line kept text depth on is e h o goes some not =
@@ -42,16 +42,17 @@ more_line d s line kept text depth on is e h o goes some not =
 
 -- what a line of its own says the line says
 pub own_line : (d : Dialect) (s : State) (line kept text : List ℕ) (depth : ℕ) (on : Bool)
-    → IsKept d.inline_comments line kept → text ≡ trimmed kept → depth ≡ indent_of line
+    → IsWithoutComment d.inline_comments line kept → text ≡ trimmed kept → depth ≡ indent_of line
     → on ≡ is_deeper s.pair depth → on ≡ false → 0 < length text
     → NotFirst (IsMark d.comments) text → (result : Result Line Reason)
-    → MatchResult result (λ l. OwnSays d s depth text (said_of l.entry) l.next)
-    (λ why. LacksOwn d s text why)
-    → MatchResult result (λ l. Step d s line (said_of l.entry) l.next) (λ why. Lacks d s line why)
+    → MatchResult result (λ l. OwnLineMeans d s depth text (said_of l.entry) l.next)
+    (λ why. OwnLineIsInvalid d s text why)
+    → MatchResult result (λ l. Step d s line (said_of l.entry) l.next)
+    (λ why. IsInvalidFor d s line why)
 own_line d s line kept text depth on is e h o never some not (Ok l) own =
     let P : List ℕ → Type 0 = λ t. IsIdle d t → ⊥ in
-    let Q : List ℕ → Type 0 = λ t. OwnSays d s (indent_of line) t (said_of l.entry) l.next in
-    let R : ℕ → Type 0 = λ n. OwnSays d s n text (said_of l.entry) l.next in
+    let Q : List ℕ → Type 0 = λ t. OwnLineMeans d s (indent_of line) t (said_of l.entry) l.next in
+    let R : ℕ → Type 0 = λ n. OwnLineMeans d s n text (said_of l.entry) l.next in
     let S : ℕ → Type 0 = λ n. is_deeper s.pair n ≡ false in (
       kept,
       is,
@@ -63,7 +64,7 @@ own_line d s line kept text depth on is e h o never some not (Ok l) own =
     )
 own_line d s line kept text depth on is e h o never some not (Err why) lacks =
     let P : List ℕ → Type 0 = λ t. IsIdle d t → ⊥ in
-    let Q : List ℕ → Type 0 = λ t. LacksOwn d s t why in
+    let Q : List ℕ → Type 0 = λ t. OwnLineIsInvalid d s t why in
     let S : ℕ → Type 0 = λ n. is_deeper s.pair n ≡ false in (
       kept,
       is,

@@ -4,14 +4,13 @@ use Rattle.std.specs.Prelude.{None, Option, Some}
 use Rattle.std.specs.List.{All}
 use Rattle.std.proofs.Common.{refl, sym, ap, subst, inl, inr, ◌∙◌, arith}
 use Rattle.std.proofs.lemmas.List.Elements.{All-head}
-use Rattle.format_ini.specs.Documents.{AreLines, BehindMark, IsDocument, IsRefused, LinesSay}
-use Rattle.format_ini.specs.Documents.{start}
-use Rattle.format_ini.specs.Front.{FirstLine, IsKept, StartsWith, indent_of}
-use Rattle.format_ini.specs.Front.{trimmed}
-use Rattle.format_ini.specs.Lines.{ContinuesPair, IdleSays, IsEmpty, IsIdle, IsPair, IsSection}
-use Rattle.format_ini.specs.Lines.{Lacks}
-use Rattle.format_ini.specs.Lines.{LacksOwn, NoPair, NoSection, OwnSays, Said, Step, StepOf}
-use Rattle.format_ini.specs.Lines.{pair, pair_at, section}
+use Rattle.format_ini.specs.Documents.{AfterByteOrderMark, AreLines, IsDocument, IsRefused}
+use Rattle.format_ini.specs.Documents.{LinesSay, initial_state}
+use Rattle.format_ini.specs.Front.{FirstLine, IsWithoutComment, StartsWith, indent_of, trimmed}
+use Rattle.format_ini.specs.Lines.{ContinuesPair, IdleLineMeans, IsEmpty, IsIdle, IsInvalidFor}
+use Rattle.format_ini.specs.Lines.{IsPair, IsSection, NoPair, NoSection, OwnLineIsInvalid}
+use Rattle.format_ini.specs.Lines.{OwnLineMeans, Said, Step, StepOf, continued_indent, pair}
+use Rattle.format_ini.specs.Lines.{section}
 use Rattle.format_ini.specs.Marks.{IsDelimiter}
 use Rattle.format_ini.specs.declared.dialect.Continued.{Continued}
 use Rattle.format_ini.specs.declared.dialect.Continued.TheVariants.{Never, PastEmpty, UntilEmpty}
@@ -24,7 +23,7 @@ use Rattle.format_ini.specs.declared.lines.State.{State}
 use Rattle.format_ini.proofs.Heads.{both_first, either_first, section_head_is_unique}
 use Rattle.format_ini.proofs.Heads.{head_excludes_no_head, no_stop}
 use Rattle.format_ini.proofs.Heads.{parts_one, unlike}
-use Rattle.format_ini.proofs.Runs.{line_less}
+use Rattle.format_ini.proofs.Runs.{rest_is_shorter}
 
 -- ---- one line
 
@@ -40,8 +39,8 @@ first_line_one text line rest other left (all, inr (e, none, some)) (too, inl f)
 first_line_one text line rest other left (all, inr (e, none, some)) (too, inr (f, nil, more)) =
     (sym e ∙ f, none ∙ sym nil)
 
-pub kept_one : (marks : Marks) (line kept other : List ℕ) → IsKept marks line kept
-    → IsKept marks line other → kept ≡ other
+pub kept_one : (marks : Marks) (line kept other : List ℕ) → IsWithoutComment marks line kept
+    → IsWithoutComment marks line other → kept ≡ other
 kept_one marks line kept other (none, inl e) (never, inl f) = sym e ∙ f
 kept_one marks line kept other (none, inl e) (never, inr (m, r, f, is, opens)) =
     absurd (none other m r (sym e ∙ f) is opens)
@@ -71,7 +70,8 @@ pair_one d text key other value less (inr (none, may, k, v)) (inr (none', may', 
     (k ∙ sym k', v ∙ sym v')
 
 own_one : (d : Dialect) (s : State) (depth : ℕ) (text : List ℕ) (said other : List Said)
-    (next left : State) → OwnSays d s depth text said next → OwnSays d s depth text other left
+    (next left : State) → OwnLineMeans d s depth text said next
+    → OwnLineMeans d s depth text other left
     → (said ≡ other) × (next ≡ left)
 own_one d s depth text said other next left (inl (name, is, e, n)) (inl (same, too, f, m)) =
     let h = section_head_is_unique d text name same is too in
@@ -86,11 +86,12 @@ own_one d s depth text said other next left (inr (k, v, not, may, is, e, n))
     (inr (k', v', not', may', too, f, m)) =
     let (hk, hv) = pair_one d text k k' v v' is too in (
       e ∙ ap (λ l. pair l v ∷ []) hk ∙ ap (λ l. pair k' l ∷ []) hv ∙ sym f,
-      n ∙ ap (λ l. record { section = s.section; pair = pair_at d.continued depth l }) hv ∙ sym m,
+      n ∙ ap (λ l. record { section = s.section; pair = continued_indent d.continued depth l })
+          hv ∙ sym m,
     )
 
 idle_one : (c : Continued) (s : State) (empty : Bool) (said other : List Said) (next left : State)
-    → IdleSays c s empty said next → IdleSays c s empty other left
+    → IdleLineMeans c s empty said next → IdleLineMeans c s empty other left
     → (said ≡ other) × (next ≡ left)
 idle_one Never s empty said other next left (e, n) (f, m) = (e ∙ sym f, n ∙ sym m)
 idle_one UntilEmpty s empty said other next left (e, n) (f, m) = (e ∙ sym f, n ∙ sym m)
@@ -121,7 +122,7 @@ step_of_one : (d : Dialect) (s : State) (line kept : List ℕ) (said other : Lis
     → (said ≡ other) × (next ≡ left)
 step_of_one d s line kept said other next left (inl (idle, (empty, is, it)))
     (inl (too, (less, at, same))) =
-    let P : Bool → Type 0 = λ b. IdleSays d.continued s b other left in
+    let P : Bool → Type 0 = λ b. IdleLineMeans d.continued s b other left in
     idle_one d.continued s empty said other next left it
     (subst P (sym (empty_one line kept empty less is at)) same)
 step_of_one d s line kept said other next left (inl (idle, it))
@@ -196,7 +197,7 @@ no_pair d text key value why.NoDelimiter (all, never)
 no_pair d text key value why.NoDelimiter (all, never) (inr (too, may, k, v)) = unlike never may
 
 none_own : (d : Dialect) (s : State) (depth : ℕ) (text : List ℕ) (said : List Said) (next : State)
-    (reason : Reason) → LacksOwn d s text reason → OwnSays d s depth text said next → ⊥
+    (reason : Reason) → OwnLineIsInvalid d s text reason → OwnLineMeans d s depth text said next → ⊥
 none_own d s depth text said next reason (inl (first, so, lacks))
     (inl (name, inl (so', is), e, n)) =
     no_section text name reason lacks is
@@ -217,7 +218,7 @@ none_own d s depth text said next reason (inr (not, inr (may, lacks)))
 
 none_of : (d : Dialect) (s : State) (line kept : List ℕ) (said : List Said) (next : State)
     (reason : Reason) → (IsIdle d (trimmed kept) → ⊥) → (ContinuesPair s (indent_of line) → ⊥)
-    → LacksOwn d s (trimmed kept) reason → StepOf d s line kept said next → ⊥
+    → OwnLineIsInvalid d s (trimmed kept) reason → StepOf d s line kept said next → ⊥
 none_of d s line kept said next reason busy alone lacks (inl (idle, at)) = busy idle
 none_of d s line kept said next reason busy alone lacks (inr (inl (too, on, e, n))) =
     alone on
@@ -225,7 +226,7 @@ none_of d s line kept said next reason busy alone lacks (inr (inr (too, single, 
     none_own d s (indent_of line) (trimmed kept) said next reason lacks at
 
 pub lacks_none : (d : Dialect) (s : State) (line : List ℕ) (said : List Said) (next : State)
-    (reason : Reason) → Lacks d s line reason → Step d s line said next → ⊥
+    (reason : Reason) → IsInvalidFor d s line reason → Step d s line said next → ⊥
 lacks_none d s line said next reason (kept, is, busy, alone, lacks) (kept', too, at) =
     let P : List ℕ → Type 0 = λ l. StepOf d s line l said next in
     let same = kept_one d.inline_comments line kept kept' is too in
@@ -234,7 +235,7 @@ lacks_none d s line said next reason (kept, is, busy, alone, lacks) (kept', too,
 -- ---- lines of a text
 
 no_line : (line rest : List ℕ) → FirstLine [] line rest → ⊥
-no_line line rest it = let h = line_less [] line rest it in omega (arith, h)
+no_line line rest it = let h = rest_is_shorter [] line rest it in omega (arith, h)
 
 -- all of a text is lines in one way, and they say one thing
 pub says_one : (d : Dialect) (s : State) (text : List ℕ) (lines others : List (List ℕ))
@@ -260,7 +261,7 @@ says_one d s text (l ∷ ls) (k ∷ ks) said other next left (rest, first, more)
 pub stops_none : (d : Dialect) (s : State) (text : List ℕ) (lines others : List (List ℕ))
     (said other : List Said) (next left : State) (here line behind : List ℕ) (reason : Reason)
     → AreLines text lines here → LinesSay d s lines said next → FirstLine here line behind
-    → Lacks d next line reason → AreLines text others [] → LinesSay d s others other left → ⊥
+    → IsInvalidFor d next line reason → AreLines text others [] → LinesSay d s others other left → ⊥
 unfolding AreLines LinesSay
 stops_none d s text [] [] said other next left here line behind reason are it first lacks too at =
     let P : List ℕ → Type 0 = λ t. FirstLine t line behind in
@@ -270,7 +271,7 @@ stops_none d s text [] (k ∷ ks) said other next left here line behind reason a
     let P : List ℕ → Type 0 = λ t. FirstLine t line behind in
     let (same, over) = first_line_one text line behind k rest (subst P (sym are) first) is in
     let Q : List ℕ → Type 0 = λ t. Step d s t two mid in
-    let R : State → Type 0 = λ t. Lacks d t line reason in
+    let R : State → Type 0 = λ t. IsInvalidFor d t line reason in
     lacks_none d s line two mid reason (subst R n lacks) (subst Q (sym same) step)
 stops_none d s text (l ∷ ls) [] said other next left here line behind reason (rest, is, more) it
     first lacks too at =
@@ -286,7 +287,8 @@ stops_none d s text (l ∷ ls) (k ∷ ks) said other next left here line behind 
     stops_none d mid rest ls ks said' other' next left here line behind reason more on first lacks
     (subst P (sym over) last) (subst R (sym at) on')
 
-mark_one : (text rest left : List ℕ) → BehindMark text rest → BehindMark text left → rest ≡ left
+mark_one : (text rest left : List ℕ) → AfterByteOrderMark text rest
+    → AfterByteOrderMark text left → rest ≡ left
 mark_one text rest left (inl e) (inl f) = let h = sym e ∙ f in cc
 mark_one text rest left (inl e) (inr (is, none)) = absurd (none rest e)
 mark_one text rest left (inr (is, none)) (inl f) = absurd (none left f)
@@ -296,7 +298,7 @@ pub document_one : (d : Dialect) (text : List ℕ) (said others : List Said) →
     → IsDocument d text others → said ≡ others
 document_one d text said others (lines, next, at, (ls, are, it)) (left, last, on, (ks, too, more)) =
     let P : List ℕ → Type 0 = λ t. AreLines t ks [] in
-    says_one d start lines ls ks said others next last are
+    says_one d initial_state lines ls ks said others next last are
     (subst P (sym (mark_one text lines left at on)) too) it more
 
 pub refused_none : (d : Dialect) (text : List ℕ) (fault : InvalidLine) (said : List Said)
@@ -305,5 +307,6 @@ refused_none d text fault said
     (lines, before, next, here, at, ((ls, are, it), (line, behind, first, lacks)), place)
     (left, last, on, (ks, too, more)) =
     let P : List ℕ → Type 0 = λ t. AreLines t ks [] in
-    stops_none d start lines ls ks before said next last here line behind fault.why are it first
+    stops_none d initial_state lines ls ks before said next last here line behind fault.why are
+    it first
     lacks (subst P (sym (mark_one text lines left at on)) too) more

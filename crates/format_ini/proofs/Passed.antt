@@ -3,24 +3,24 @@ use Rattle.std.specs.Prelude.{◌≡◌, ℕ, ◌+◌, ◌<◌, Bool, List, [], 
 use Rattle.std.specs.Prelude.{MatchBool, Ok, Some, false, true}
 use Rattle.std.proofs.Common.{refl, sym, ap, subst, inl, inr, arith}
 use Rattle.std.proofs.lemmas.List.{append-nil}
-use Rattle.format_ini.proofs.Reading.{reads_more, reads_next, reads_none}
+use Rattle.format_ini.proofs.Reading.{reads_lines_trans, reads_no_lines, reads_one_more_line}
 use Rattle.format_ini.specs.Documents.{ReadsLines}
 use Rattle.format_ini.specs.Lines.{Said, said_in}
-use Rattle.format_ini.specs.Lookup.{HasNo, IsFor, IsPairOf, name_after, section_after}
+use Rattle.format_ini.specs.Lookup.{HasNoPair, IsFor, IsPairOf, name_after, section_after}
 use Rattle.format_ini.specs.Places.{IsAtStart, NextPlaced, Passes}
 use Rattle.format_ini.specs.declared.dialect.Dialect.{Dialect}
 use Rattle.format_ini.specs.declared.places.Placed.{Placed}
 use Rattle.format_ini.specs.declared.places.Reading.{Reading}
 
-after_more : (now : List ℕ) (said : List Said) (one : Said)
+name_after_append : (now : List ℕ) (said : List Said) (one : Said)
     → section_after now (said ++ one ∷ []) ≡ name_after (section_after now said) one
 unfolding section_after
-after_more now [] one = refl
-after_more now (s ∷ said) one = after_more (name_after now s) said one
+name_after_append now [] one = refl
+name_after_append now (s ∷ said) one = name_after_append (name_after now s) said one
 
-none_more : (name key now : List ℕ) (said : List Said) (one : Said) → HasNo name key now said
-    → (IsFor name key (section_after now said) one → ⊥) → HasNo name key now (said ++ one ∷ [])
-unfolding section_after HasNo
+none_more : (name key now : List ℕ) (said : List Said) (one : Said) → HasNoPair name key now said
+    → (IsFor name key (section_after now said) one → ⊥) → HasNoPair name key now (said ++ one ∷ [])
+unfolding section_after HasNoPair
 none_more name key now [] one none not = (not, tt)
 none_more name key now (s ∷ said) one none not =
     (none.0, none_more name key (name_after now s) said one none.1 not)
@@ -45,10 +45,11 @@ passes_entry d bytes old mid new said it passes
     let left : Reading → List ℕ = λ r. drop r.offset bytes in
     let to_line : ReadsLines d old.state (left old) said at.state (left at) =
     subst (λ l. ReadsLines d old.state (left old) l at.state (left at)) (append-nil said)
-    (reads_more d old.state mid.state at.state (left old) (left mid) (left at) said [] passes.1
+    (reads_lines_trans d old.state mid.state at.state (left old) (left mid) (left at) said []
+    passes.1
     idle.1) in (
       inr (omega (arith, less, up old mid said passes, up mid at [] idle), within),
-      reads_next d old.state at.state new.state (left old) (left at) line (left new) said
+      reads_one_more_line d old.state at.state new.state (left old) (left at) line (left new) said
           (said_in it.entry ∷ []) to_line first step,
     )
 
@@ -59,17 +60,17 @@ module _ (d : Dialect) (bytes name key : List ℕ) where
     pub begins : IsAtStart bytes from
     pub said : List Said
     pub passes : Passes d bytes from said mid
-    pub none : HasNo name key [] said
+    pub none : HasNoPair name key [] said
     pub tells : MatchBool within (section_after [] said ≡ name) (section_after [] said ≡ name → ⊥)
 
   pub so_far_first : (within : Bool) (from : Reading) → IsAtStart bytes from
       → MatchBool within ([] ≡ name) ([] ≡ name → ⊥) → SoFar within from
-  unfolding section_after HasNo
+  unfolding section_after HasNoPair
   so_far_first within from begins tells = record {
     from = from;
     begins = begins;
     said = [];
-    passes = (inl refl, reads_none d from.state (drop from.offset bytes));
+    passes = (inl refl, reads_no_lines d from.state (drop from.offset bytes));
     none = tt;
     tells = tells;
   }
@@ -93,5 +94,5 @@ module _ (d : Dialect) (bytes name key : List ℕ) where
           none = none_more name key [] so.said one so.none
               (is_not_for name key now one within so.tells not);
           tells = subst (λ n. MatchBool after (n ≡ name) (n ≡ name → ⊥))
-              (sym (after_more [] so.said one)) (more now so.tells);
+              (sym (name_after_append [] so.said one)) (more now so.tells);
         }

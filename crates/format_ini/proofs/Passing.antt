@@ -8,7 +8,7 @@ use Rattle.std.proofs.Math.Dec.{eqb}
 use Rattle.std.proofs.lemmas.Bool.{eqb-true, eq-eqb}
 use Rattle.std.proofs.lemmas.List.{drop-drop, drop_all, length-take-le, take_all}
 use Rattle.format_ini.specs.Documents.{ReadsLines}
-use Rattle.format_ini.specs.Front.{FirstLine, IsOther, StopsAt}
+use Rattle.format_ini.specs.Front.{FirstLine, IsNotByte, StopsAt}
 use Rattle.format_ini.specs.Lines.{said_of}
 use Rattle.format_ini.specs.Places.{LineAt, NextPlaced, PassesIdle}
 use Rattle.format_ini.specs.declared.dialect.Dialect.{Dialect}
@@ -16,7 +16,7 @@ use Rattle.format_ini.specs.declared.front.Stop.TheVariants.{LineFeed}
 use Rattle.format_ini.specs.declared.lines.Entry.{Entry}
 use Rattle.format_ini.specs.declared.lines.Places.{Places}
 use Rattle.format_ini.specs.declared.places.Reading.{Reading}
-use Rattle.format_ini.proofs.Reading.{reads_next, reads_none}
+use Rattle.format_ini.proofs.Reading.{reads_no_lines, reads_one_more_line}
 use Rattle.format_ini.proofs.Runs.{around_is}
 
 -- the test of two bytes decides whether they are the same
@@ -26,9 +26,9 @@ byte_decides a b = (eqb-true a b, eq-eqb a b)
 pub unlike : {b : Bool} → b ≡ false → b ≡ true → ⊥
 unlike {b} e f = cc
 
-pub drop_none : (bytes : List ℕ) → drop 0 bytes ≡ bytes
-drop_none [] = refl
-drop_none (b ∷ bytes) = refl
+pub drop_zero : (bytes : List ℕ) → drop 0 bytes ≡ bytes
+drop_zero [] = refl
+drop_zero (b ∷ bytes) = refl
 
 -- ---- the end of a line
 
@@ -58,7 +58,7 @@ module _ (bytes left line : List ℕ) (offset size behind : ℕ) (less : offset 
       around_is left size more ∙ ap (λ m. take size left ++ (m ∷ drop (size + 1) left)) mark
       ∙ ap (λ l. l ++ (10 ∷ drop (size + 1) left)) (sym is)
       ∙ ap (λ l. line ++ (10 ∷ l)) rest in
-      let none : All (IsOther 10) line = subst (λ l. All (IsOther 10) l) (sym is) stops.1 in (
+      let none : All (IsNotByte 10) line = subst (λ l. All (IsNotByte 10) l) (sym is) stops.1 in (
         subst (λ t. P t (drop behind bytes)) here (none, inl cut),
         omega (arith, at),
         omega (arith, at, more, left_long),
@@ -73,7 +73,7 @@ module _ (bytes left line : List ℕ) (offset size behind : ℕ) (less : offset 
       let same : left ≡ line = sym (is ∙ take_all size left (omega (arith, all))) in
       let end : drop behind bytes ≡ [] =
       drop_all behind bytes (omega (arith, at, all, left_long)) in
-      let others : All (IsOther 10) line = subst (λ l. All (IsOther 10) l) (sym is) stops.1 in (
+      let others : All (IsNotByte 10) line = subst (λ l. All (IsNotByte 10) l) (sym is) stops.1 in (
         subst (λ t. P t (drop behind bytes)) here
             (others, inr (same, end, omega (arith, all, left_long, less, line_long))),
         omega (arith, at, all, left_long, less),
@@ -84,7 +84,7 @@ module _ (bytes left line : List ℕ) (offset size behind : ℕ) (less : offset 
 -- ---- from line to line
 
 pub passes_none : (d : Dialect) (bytes : List ℕ) (r : Reading) → PassesIdle d bytes r r
-passes_none d bytes r = (inl refl, reads_none d r.state (drop r.offset bytes))
+passes_none d bytes r = (inl refl, reads_no_lines d r.state (drop r.offset bytes))
 
 module _ (d : Dialect) (bytes : List ℕ) (old mid new : Reading)
     (passes : PassesIdle d bytes old mid) where
@@ -100,7 +100,8 @@ module _ (d : Dialect) (bytes : List ℕ) (old mid new : Reading)
     inr (later less, within),
     subst (λ s. ReadsLines d old.state (drop old.offset bytes) s new.state (drop new.offset bytes))
         none
-        (reads_next d old.state mid.state new.state (drop old.offset bytes) (drop mid.offset bytes)
+        (reads_one_more_line d old.state mid.state new.state (drop old.offset bytes)
+        (drop mid.offset bytes)
         line (drop new.offset bytes) [] (said_of entry) passes.1 first step),
   )
 

@@ -10,8 +10,8 @@ use Rattle.std.proofs.Common.{length-append, take-append-drop}
 use Rattle.std.proofs.lemmas.List.{append-nil}
 use Rattle.std.proofs.lemmas.List.Elements.{All-append, All-cons, All-nil, All-weaker}
 use Rattle.std.proofs.lemmas.List.Folds.{length-prefix_len}
-use Rattle.format_ini.specs.Front.{IsKept, indent_of, trimmed}
-use Rattle.format_ini.specs.Lines.{OwnSays, said_of, value_of}
+use Rattle.format_ini.specs.Front.{IsWithoutComment, indent_of, trimmed}
+use Rattle.format_ini.specs.Lines.{OwnLineMeans, said_of, value_of}
 use Rattle.format_ini.specs.Marks.{IsBlank, IsDelimiter}
 use Rattle.format_ini.specs.Places.{BehindBlanks, BehindDelimiter, InBrackets, SaidAt}
 use Rattle.format_ini.specs.Places.{ValueAt}
@@ -77,18 +77,18 @@ trimmed_within text some =
     )
 
 -- what is kept of a line is indented as the line is
-pub line_indent : (marks : Marks) (line kept : List ℕ) → IsKept marks line kept
+pub line_indent : (marks : Marks) (line kept : List ℕ) → IsWithoutComment marks line kept
     → 0 < length (trimmed kept) → indent_of kept ≡ indent_of line
 line_indent marks line kept (none, inl e) some = ap (λ l. indent_of l) (sym e)
 line_indent marks line kept (none, inr (m, r, e, is, opens)) some =
     sym (ap (λ l. indent_of l) e ∙ indent_more kept (m ∷ r) (trimmed_within kept some))
 
-kept_first : (marks : Marks) (line kept : List ℕ) → IsKept marks line kept
+kept_first : (marks : Marks) (line kept : List ℕ) → IsWithoutComment marks line kept
     → (tail : List ℕ) × (line ≡ kept ++ tail)
 kept_first marks line kept (none, inl e) = ([], e ∙ sym (append-nil kept))
 kept_first marks line kept (none, inr (m, r, e, is, opens)) = (m ∷ r, e)
 
-pub text_stands : (marks : Marks) (line kept : List ℕ) → IsKept marks line kept
+pub text_stands : (marks : Marks) (line kept : List ℕ) → IsWithoutComment marks line kept
     → (lead : List ℕ) × (rest : List ℕ) × (line ≡ lead ++ (trimmed kept ++ rest))
     × All IsBlank lead × (length lead ≡ indent_of kept)
 text_stands marks line kept is =
@@ -102,7 +102,7 @@ text_stands marks line kept is =
       n,
     )
 
-pub text_within : (marks : Marks) (line kept : List ℕ) → IsKept marks line kept
+pub text_within : (marks : Marks) (line kept : List ℕ) → IsWithoutComment marks line kept
     → indent_of kept + length (trimmed kept) ≤ length line
 text_within marks line kept is =
     let (lead, rest, e, all, n) = text_stands marks line kept is in
@@ -244,7 +244,7 @@ module _ (d : Dialect) (from : ℕ) (line lead text rest : List ℕ)
   value_behind (Some value) at is = delimiter_behind value at.value is
 
   entry_behind : (s : State) (indent : ℕ) (entry : Option Entry) (at : Places) (next : State)
-      → OwnSays d s indent text (said_of entry) next
+      → OwnLineMeans d s indent text (said_of entry) next
       → SaidAt d (from + length lead) text entry at → SaidAt d from line entry at
   entry_behind s indent None at next own is = is
   entry_behind s indent (Some (entries.Section name)) at next own (is, same) =
@@ -258,9 +258,10 @@ module _ (d : Dialect) (from : ℕ) (line lead text rest : List ℕ)
 -- ---- a line
 
 module _ (d : Dialect) (from : ℕ) (marks : Marks) (line kept text : List ℕ) (depth : ℕ)
-    (is : IsKept marks line kept) (t : text ≡ trimmed kept) (n : depth ≡ indent_of kept) where
+    (is : IsWithoutComment marks line kept) (t : text ≡ trimmed kept)
+    (n : depth ≡ indent_of kept) where
   line_at : (s : State) (indent : ℕ) (entry : Option Entry) (at : Places) (next : State)
-      → OwnSays d s indent text (said_of entry) next → SaidAt d (from + depth) text entry at
+      → OwnLineMeans d s indent text (said_of entry) next → SaidAt d (from + depth) text entry at
       → SaidAt d from line entry at
   line_at s indent entry at next own said =
       let (lead, rest, e, all, m) = text_stands marks line kept is in
@@ -282,7 +283,7 @@ module _ (d : Dialect) (from : ℕ) (marks : Marks) (line kept text : List ℕ) 
 
   pub line_ok_at : (s : State) (indent : ℕ) (lacks : Reason → Type 0)
       (result : Result Line Reason)
-      → MatchResult result (λ l. OwnSays d s indent text (said_of l.entry) l.next) lacks
+      → MatchResult result (λ l. OwnLineMeans d s indent text (said_of l.entry) l.next) lacks
       → IfOk result (λ l. SaidAt d (from + depth) text l.entry l.at)
       → IfOk result (λ l. SaidAt d from line l.entry l.at)
   line_ok_at s indent lacks (Ok l) own said = line_at s indent l.entry l.at l.next own said

@@ -2,7 +2,7 @@
 use Rattle.std.specs.Prelude.{◌≡◌, ◌⊎◌, ◌+◌, ◌<◌, ℕ, List, [], ◌∷◌, ◌++◌, length, false, ⊤}
 use Rattle.std.specs.Prelude.{Result, Ok, Err, Option, Some, None}
 use Rattle.format_ini.specs.Front.{FirstLine}
-use Rattle.format_ini.specs.Lines.{Lacks, Said, Step, said_of}
+use Rattle.format_ini.specs.Lines.{IsInvalidFor, Said, Step, said_of}
 use Rattle.format_ini.specs.declared.dialect.Dialect.{Dialect}
 use Rattle.format_ini.specs.declared.documents.InvalidLine.{InvalidLine}
 use Rattle.format_ini.specs.declared.documents.IniError.{IniError}
@@ -15,9 +15,10 @@ use Rattle.format_ini.specs.declared.lines.State.{State}
 abbrev pub NoMark : List ℕ → Type 0
 NoMark text = (rest : List ℕ) → text ≡ 239 ∷ 187 ∷ 191 ∷ rest → ⊥
 
--- `BehindMark text rest`: `rest` is `text` without the byte order mark that it may start with.
-abbrev pub BehindMark : List ℕ → List ℕ → Type 0
-BehindMark text rest = (text ≡ 239 ∷ 187 ∷ 191 ∷ rest) ⊎ ((rest ≡ text) × NoMark text)
+-- `AfterByteOrderMark text rest`: `rest` is `text` without the byte order mark that it may start
+-- with.
+abbrev pub AfterByteOrderMark : List ℕ → List ℕ → Type 0
+AfterByteOrderMark text rest = (text ≡ 239 ∷ 187 ∷ 191 ∷ rest) ⊎ ((rest ≡ text) × NoMark text)
 
 -- `AreLines text lines rest`: `text` starts with `lines`, followed by `rest`.
 unfoldable pub AreLines : List ℕ → List (List ℕ) → List ℕ → Type 0
@@ -38,30 +39,32 @@ ReadsLines d s text said next rest =
     (lines : List (List ℕ)) × AreLines text lines rest × LinesSay d s lines said next
 
 -- before the first line
-abbrev pub start : State
-start = record { section = false; pair = None }
+abbrev pub initial_state : State
+initial_state = record { section = false; pair = None }
 
 -- The text, without a byte order mark, is lines that say this.
 abbrev pub IsDocument : Dialect → List ℕ → List Said → Type 0
-IsDocument d text said = (lines : List ℕ) × (next : State) × BehindMark text lines
-    × ReadsLines d start lines said next []
+IsDocument d text said = (lines : List ℕ) × (next : State) × AfterByteOrderMark text lines
+    × ReadsLines d initial_state lines said next []
 
 -- The text starts with lines of this dialect that have an entry.
 abbrev pub HasEntry : Dialect → List ℕ → Type 0
 HasEntry d text = (lines : List ℕ) × (said : List Said) × (next : State) × (rest : List ℕ)
-    × BehindMark text lines × ReadsLines d start lines said next rest × (0 < length said)
+    × AfterByteOrderMark text lines × ReadsLines d initial_state lines said next rest
+    × (0 < length said)
 
 -- `StopsBy d s text said next rest why`: `text` starts with lines that mean `said`, followed by
 -- `rest`, which starts with a line that is invalid in this dialect.
 abbrev pub StopsBy : Dialect → State → List ℕ → List Said → State → List ℕ → Reason → Type 0
 StopsBy d s text said next rest why = ReadsLines d s text said next rest
-    × ((line : List ℕ) × (behind : List ℕ) × FirstLine rest line behind × Lacks d next line why)
+    × ((line : List ℕ) × (behind : List ℕ) × FirstLine rest line behind
+    × IsInvalidFor d next line why)
 
 -- `IsRefused d text fault`: `fault` holds the offset of the first line of `text` that is invalid in
 -- this dialect.
 abbrev pub IsRefused : Dialect → List ℕ → InvalidLine → Type 0
 IsRefused d text fault = (lines : List ℕ) × (said : List Said) × (next : State) × (rest : List ℕ)
-    × BehindMark text lines × StopsBy d start lines said next rest fault.why
+    × AfterByteOrderMark text lines × StopsBy d initial_state lines said next rest fault.why
     × (fault.offset + length rest ≡ length text)
 
 -- the meaning of an error for a text; out of memory means nothing for it

@@ -10,13 +10,13 @@ use Rattle.format_ini.specs.declared.front.Stop.{Stop}
 use Rattle.format_ini.specs.declared.front.Stop.TheVariants.{Bracket, Delimiter, LineFeed}
 
 -- There is no byte, or the first is one of these.
-abbrev pub MayBegin : (ℕ → Type 0) → List ℕ → Type 0
-MayBegin these [] = ⊤
-MayBegin these (b ∷ bs) = these b
+abbrev pub FirstIfAny : (ℕ → Type 0) → List ℕ → Type 0
+FirstIfAny these [] = ⊤
+FirstIfAny these (b ∷ bs) = these b
 
 -- There is no byte, or the first is none of these.
 abbrev pub NotFirst : (ℕ → Type 0) → List ℕ → Type 0
-NotFirst these bytes = MayBegin (λ b. these b → ⊥) bytes
+NotFirst these bytes = FirstIfAny (λ b. these b → ⊥) bytes
 
 -- There is a first byte, and it is one of these.
 abbrev pub StartsWith : (ℕ → Type 0) → List ℕ → Type 0
@@ -24,8 +24,8 @@ StartsWith these [] = ⊥
 StartsWith these (b ∷ bs) = these b
 
 -- another byte
-abbrev pub IsOther : ℕ → ℕ → Type 0
-IsOther mark b = b ≡ mark → ⊥
+abbrev pub IsNotByte : ℕ → ℕ → Type 0
+IsNotByte mark b = b ≡ mark → ⊥
 
 -- what a text is cut at: a line feed, `]`, or what ends a key
 abbrev pub IsStop : Stop → ℕ → Type 0
@@ -53,7 +53,7 @@ CutAtLast text before behind =
 -- `FirstLine text line rest`: `text` starts with `line`, followed by `rest`. A line feed ends the
 -- line, or the end of `text`.
 abbrev pub FirstLine : List ℕ → List ℕ → List ℕ → Type 0
-FirstLine text line rest = All (IsOther 10) line
+FirstLine text line rest = All (IsNotByte 10) line
     × ((text ≡ line ++ (10 ∷ rest)) ⊎ ((text ≡ line) × (rest ≡ []) × (0 < length line)))
 
 -- The number of blanks at the start of a line.
@@ -69,22 +69,23 @@ unfoldable pub trimmed : List ℕ → List ℕ
 trimmed text = trimmed_end (drop (prefix_len is_ascii_whitespace text) text)
 
 -- A comment may begin after these bytes of a line: there are none, or the last is a blank.
-abbrev pub MayOpen : List ℕ → Type 0
-MayOpen before = (before ≡ [])
+abbrev pub MayStartComment : List ℕ → Type 0
+MayStartComment before = (before ≡ [])
     ⊎ ((front : List ℕ) × (b : ℕ) × (before ≡ front ++ b ∷ []) × IsBlank b)
 
 -- No comment of these marks begins in a line.
 abbrev pub NoComment : Marks → List ℕ → Type 0
 NoComment marks line = (before : List ℕ) (mark : ℕ) (rest : List ℕ) → line ≡ before ++ (mark ∷ rest)
-    → IsMark marks mark → MayOpen before → ⊥
+    → IsMark marks mark → MayStartComment before → ⊥
 
--- `IsKept marks line kept`: `kept` is `line` up to the first comment of `marks`, or all of it if no
--- comment begins in it.
-abbrev pub IsKept : Marks → List ℕ → List ℕ → Type 0
-IsKept marks line kept = NoComment marks kept × ((line ≡ kept) ⊎ ((mark : ℕ) × (rest : List ℕ)
-    × (line ≡ kept ++ (mark ∷ rest)) × IsMark marks mark × MayOpen kept))
+-- `IsWithoutComment marks line kept`: `kept` is `line` up to the first comment of `marks`, or all
+-- of it if no comment begins in it.
+abbrev pub IsWithoutComment : Marks → List ℕ → List ℕ → Type 0
+IsWithoutComment marks line kept =
+    NoComment marks kept × ((line ≡ kept) ⊎ ((mark : ℕ) × (rest : List ℕ)
+    × (line ≡ kept ++ (mark ∷ rest)) × IsMark marks mark × MayStartComment kept))
 
 -- `KeepsSoMany marks line n`: the first `n` bytes of `line` are kept
 abbrev pub KeepsSoMany : Marks → List ℕ → ℕ → Type 0
 KeepsSoMany marks line n = (n ≤ length line) × NoComment marks (take n line)
-    × (n < length line → IsMark marks (slice_index line n) × MayOpen (take n line))
+    × (n < length line → IsMark marks (slice_index line n) × MayStartComment (take n line))

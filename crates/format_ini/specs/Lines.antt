@@ -4,7 +4,8 @@ use Rattle.std.specs.Prelude.{◌≡◌, ◌⊎◌, ◌<◌, ℕ, List, [], ◌�
 use Rattle.std.specs.Prelude.{None, Option, Some, drop, nat_lt, option_map}
 use Rattle.std.specs.Borrow.{Bor}
 use Rattle.std.specs.List.{All}
-use Rattle.format_ini.specs.Front.{IsKept, IsOther, NotFirst, StartsWith, indent_of, trimmed}
+use Rattle.format_ini.specs.Front.{IsNotByte, IsWithoutComment, NotFirst, StartsWith, indent_of}
+use Rattle.format_ini.specs.Front.{trimmed}
 use Rattle.format_ini.specs.Marks.{IsDelimiter, IsMark}
 use Rattle.format_ini.specs.declared.dialect.Continued.{Continued}
 use Rattle.format_ini.specs.declared.dialect.Continued.TheVariants.{Never, PastEmpty, UntilEmpty}
@@ -37,27 +38,28 @@ said_of (Some entry) = said_in entry ∷ []
 
 -- The text is the name of a section in brackets, of one byte or more.
 abbrev pub IsSection : List ℕ → List ℕ → Type 0
-IsSection text name = (text ≡ 91 ∷ (name ++ 93 ∷ [])) × All (IsOther 93) name × (0 < length name)
+IsSection text name = (text ≡ 91 ∷ (name ++ 93 ∷ [])) × All (IsNotByte 93) name × (0 < length name)
 
 -- The text is the name of a section in brackets, which ends at the last `]`, of one byte or more.
 -- The text after the `]` is ignored.
 abbrev pub IsLooseSection : List ℕ → List ℕ → Type 0
 IsLooseSection text name = (behind : List ℕ) × (text ≡ 91 ∷ (name ++ 93 ∷ behind))
-    × All (IsOther 93) behind × (0 < length name)
+    × All (IsNotByte 93) behind × (0 < length name)
 
--- `IsHead d text name`: `text` begins a section of this name.
-abbrev pub IsHead : Dialect → List ℕ → List ℕ → Type 0
-IsHead d text name = ((d.loose_sections ≡ false) × IsSection text name)
+-- `IsSectionHead d text name`: `text` begins a section of this name.
+abbrev pub IsSectionHead : Dialect → List ℕ → List ℕ → Type 0
+IsSectionHead d text name = ((d.loose_sections ≡ false) × IsSection text name)
     ⊎ ((d.loose_sections ≡ true) × IsLooseSection text name)
 
 -- A text that starts with `[` has no `]` after a name of one byte or more.
-abbrev pub NoLoose : List ℕ → Type 0
-NoLoose text = StartsWith (λ b. b ≡ 91) text × All (IsOther 93) (drop 2 text)
+abbrev pub NoLooseSection : List ℕ → Type 0
+NoLooseSection text = StartsWith (λ b. b ≡ 91) text × All (IsNotByte 93) (drop 2 text)
 
--- `NoHead d text`: `text` is not meant as the head of a section. It does not start with `[`, or the
--- dialect has loose sections, and `text` is not one.
-abbrev pub NoHead : Dialect → List ℕ → Type 0
-NoHead d text = NotFirst (λ b. b ≡ 91) text ⊎ ((d.loose_sections ≡ true) × NoLoose text)
+-- `NoSectionHead d text`: `text` is not meant as the head of a section. It does not start with `[`,
+-- or the dialect has loose sections, and `text` is not one.
+abbrev pub NoSectionHead : Dialect → List ℕ → Type 0
+NoSectionHead d text =
+    NotFirst (λ b. b ≡ 91) text ⊎ ((d.loose_sections ≡ true) × NoLooseSection text)
 
 -- `IsPair d text key value`: `text` is a pair. The key is the text before its first delimiter,
 -- without trailing blanks, and the value is the text after it, without blanks at both ends. Without
@@ -73,10 +75,11 @@ IsPair d text key value =
 
 -- The reason why a text that begins with `[` is not a section, where sections are not loose.
 abbrev pub NoSection : List ℕ → Reason → Type 0
-NoSection text why.OpenSection = (inside : List ℕ) × (text ≡ 91 ∷ inside) × All (IsOther 93) inside
+NoSection text why.OpenSection =
+    (inside : List ℕ) × (text ≡ 91 ∷ inside) × All (IsNotByte 93) inside
 NoSection text why.EmptySection = (behind : List ℕ) × (text ≡ 91 ∷ 93 ∷ behind)
 NoSection text why.TextBehindSection = (name : List ℕ) × (behind : List ℕ)
-    × (text ≡ 91 ∷ (name ++ 93 ∷ behind)) × All (IsOther 93) name × (0 < length behind)
+    × (text ≡ 91 ∷ (name ++ 93 ∷ behind)) × All (IsNotByte 93) name × (0 < length behind)
 NoSection text why.NoSection = ⊥
 NoSection text why.NoKey = ⊥
 NoSection text why.NoDelimiter = ⊥
@@ -92,40 +95,40 @@ NoPair d text why.NoDelimiter =
     All (λ b. IsDelimiter d.delimiters b → ⊥) text × (d.valueless ≡ false)
 
 -- the indentation of the pair that the next line may continue
-abbrev pub pair_at : Continued → ℕ → Option (List ℕ) → Option ℕ
-pair_at Never indent value = None
-pair_at UntilEmpty indent None = None
-pair_at UntilEmpty indent (Some v) = Some indent
-pair_at PastEmpty indent None = None
-pair_at PastEmpty indent (Some v) = Some indent
+abbrev pub continued_indent : Continued → ℕ → Option (List ℕ) → Option ℕ
+continued_indent Never indent value = None
+continued_indent UntilEmpty indent None = None
+continued_indent UntilEmpty indent (Some v) = Some indent
+continued_indent PastEmpty indent None = None
+continued_indent PastEmpty indent (Some v) = Some indent
 
 -- Pairs are allowed here: after a section, or if the dialect allows them before the first one.
 abbrev pub MayPair : Dialect → State → Type 0
 MayPair d s = (s.section ≡ true) ⊎ (d.before_sections ≡ true)
 
 -- The meaning of a line of its own, and the state after it: a section, or else a pair.
-abbrev pub OwnSays : Dialect → State → ℕ → List ℕ → List Said → State → Type 0
-OwnSays d s indent text said next =
-    ((name : List ℕ) × IsHead d text name × (said ≡ section name ∷ [])
+abbrev pub OwnLineMeans : Dialect → State → ℕ → List ℕ → List Said → State → Type 0
+OwnLineMeans d s indent text said next =
+    ((name : List ℕ) × IsSectionHead d text name × (said ≡ section name ∷ [])
     × (next ≡ record { section = true; pair = None }))
-    ⊎ ((key : List ℕ) × (value : Option (List ℕ)) × NoHead d text × MayPair d s
+    ⊎ ((key : List ℕ) × (value : Option (List ℕ)) × NoSectionHead d text × MayPair d s
     × IsPair d text key value × (said ≡ pair key value ∷ [])
-    × (next ≡ record { section = s.section; pair = pair_at d.continued indent value }))
+    × (next ≡ record { section = s.section; pair = continued_indent d.continued indent value }))
 
 -- Why it is none.
-abbrev pub LacksOwn : Dialect → State → List ℕ → Reason → Type 0
-LacksOwn d s text reason =
+abbrev pub OwnLineIsInvalid : Dialect → State → List ℕ → Reason → Type 0
+OwnLineIsInvalid d s text reason =
     (StartsWith (λ b. b ≡ 91) text × (d.loose_sections ≡ false) × NoSection text reason)
-    ⊎ (NoHead d text × (((reason ≡ why.NoSection) × (MayPair d s → ⊥))
+    ⊎ (NoSectionHead d text × (((reason ≡ why.NoSection) × (MayPair d s → ⊥))
     ⊎ (MayPair d s × NoPair d text reason)))
 
 -- The meaning of a line that is empty or a comment, and the state after it. Only an empty line
 -- within a value has a meaning, if the dialect allows that.
-abbrev pub IdleSays : Continued → State → Bool → List Said → State → Type 0
-IdleSays Never s empty said next = (said ≡ []) × (next ≡ s)
-IdleSays UntilEmpty s empty said next =
+abbrev pub IdleLineMeans : Continued → State → Bool → List Said → State → Type 0
+IdleLineMeans Never s empty said next = (said ≡ []) × (next ≡ s)
+IdleLineMeans UntilEmpty s empty said next =
     (said ≡ []) × (next ≡ record { section = s.section; pair = None })
-IdleSays PastEmpty s empty said next = (next ≡ s)
+IdleLineMeans PastEmpty s empty said next = (next ≡ s)
     × (((empty ≡ true) × ((n : ℕ) × (s.pair ≡ Some n)) × (said ≡ more [] ∷ []))
     ⊎ (((empty ≡ false) ⊎ (s.pair ≡ None)) × (said ≡ [])))
 
@@ -152,19 +155,19 @@ IsEmpty line kept false = (trimmed kept ≡ []) × (line ≡ kept) → ⊥
 abbrev pub StepOf : Dialect → State → List ℕ → List ℕ → List Said → State → Type 0
 StepOf d s line kept said next =
     (IsIdle d (trimmed kept)
-    × ((empty : Bool) × IsEmpty line kept empty × IdleSays d.continued s empty said next))
+    × ((empty : Bool) × IsEmpty line kept empty × IdleLineMeans d.continued s empty said next))
     ⊎ (((IsIdle d (trimmed kept) → ⊥) × ContinuesPair s (indent_of line)
     × (said ≡ more (trimmed kept) ∷ []) × (next ≡ s))
     ⊎ ((IsIdle d (trimmed kept) → ⊥) × (ContinuesPair s (indent_of line) → ⊥)
-    × OwnSays d s (indent_of line) (trimmed kept) said next))
+    × OwnLineMeans d s (indent_of line) (trimmed kept) said next))
 
 -- The meaning of a line after the lines before it, and the state after it.
 abbrev pub Step : Dialect → State → List ℕ → List Said → State → Type 0
-Step d s line said next = (kept : List ℕ) × IsKept d.inline_comments line kept
+Step d s line said next = (kept : List ℕ) × IsWithoutComment d.inline_comments line kept
     × StepOf d s line kept said next
 
 -- The reason why a line is invalid in this dialect.
-abbrev pub Lacks : Dialect → State → List ℕ → Reason → Type 0
-Lacks d s line reason = (kept : List ℕ) × IsKept d.inline_comments line kept
+abbrev pub IsInvalidFor : Dialect → State → List ℕ → Reason → Type 0
+IsInvalidFor d s line reason = (kept : List ℕ) × IsWithoutComment d.inline_comments line kept
     × (IsIdle d (trimmed kept) → ⊥) × (ContinuesPair s (indent_of line) → ⊥)
-    × LacksOwn d s (trimmed kept) reason
+    × OwnLineIsInvalid d s (trimmed kept) reason

@@ -30,12 +30,12 @@ IsPairOf key (more value) = ⊥
 abbrev pub IsFor : List ℕ → List ℕ → List ℕ → Said → Type 0
 IsFor name key now one = (now ≡ name) × IsPairOf key one
 
--- `HasNo name key now said`: no entry of `said`, the first of which is in the section `now`, is a
--- pair of this section and key.
-unfoldable pub HasNo : List ℕ → List ℕ → List ℕ → List Said → Type 0
-HasNo name key now [] = ⊤
-HasNo name key now (one ∷ others) =
-    (IsFor name key now one → ⊥) × HasNo name key (name_after now one) others
+-- `HasNoPair name key now said`: no entry of `said`, the first of which is in the section `now`, is
+-- a pair of this section and key.
+unfoldable pub HasNoPair : List ℕ → List ℕ → List ℕ → List Said → Type 0
+HasNoPair name key now [] = ⊤
+HasNoPair name key now (one ∷ others) =
+    (IsFor name key now one → ⊥) × HasNoPair name key (name_after now one) others
 
 -- An entry that is found, in the section `now`, is a pair of this section and key.
 abbrev pub IsFound : List ℕ → List ℕ → List ℕ → Result (Option Placed) Stop → Type 0
@@ -53,6 +53,6 @@ pub record IsLookup (d : Dialect) (bytes name key : List ℕ) (answer : Result (
   pub mid : Reading
   pub said : List Said
   pub passes : Passes d bytes from said mid
-  pub none : HasNo name key [] said
+  pub none : HasNoPair name key [] said
   pub next : NextPlaced d bytes mid answer new
   pub found : IsFound name key (section_after [] said) answer

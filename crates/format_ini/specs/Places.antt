@@ -3,9 +3,9 @@ use Rattle.std.specs.Prelude.{◌≡◌, ◌⊎◌, ◌≤◌, ◌<◌, ◌+◌,
 use Rattle.std.specs.Prelude.{Err, None, Ok, Option, Result, Some, ⊤}
 use Rattle.std.specs.List.{All}
 use Rattle.std.specs.Str.{IsUtf8}
-use Rattle.format_ini.specs.Documents.{BehindMark, ReadsLines, start}
+use Rattle.format_ini.specs.Documents.{AfterByteOrderMark, ReadsLines, initial_state}
 use Rattle.format_ini.specs.Front.{FirstLine}
-use Rattle.format_ini.specs.Lines.{Lacks, Said, Step, said_of, value_of}
+use Rattle.format_ini.specs.Lines.{IsInvalidFor, Said, Step, said_of, value_of}
 use Rattle.format_ini.specs.Marks.{IsBlank, IsDelimiter}
 use Rattle.format_ini.specs.declared.dialect.Dialect.{Dialect}
 use Rattle.format_ini.specs.declared.lines.Entry.{Entry}
@@ -61,12 +61,12 @@ SaidAt d from text (Some entry) at = EntryAt d from text entry at
 -- why a line is invalid: it is not UTF-8, or not a line of this dialect
 abbrev pub StopsAtLine : Dialect → State → List ℕ → Stop → Type 0
 StopsAtLine d s line stops.NoText = IsUtf8 line → ⊥
-StopsAtLine d s line (stops.Invalid why) = Lacks d s line why
+StopsAtLine d s line (stops.Invalid why) = IsInvalidFor d s line why
 
 -- at most a byte order mark at the start of `bytes` has been read
 abbrev pub IsAtStart : List ℕ → Reading → Type 0
-IsAtStart bytes reading = BehindMark bytes (drop reading.offset bytes)
-    × (reading.offset ≤ length bytes) × (reading.state ≡ start)
+IsAtStart bytes reading = AfterByteOrderMark bytes (drop reading.offset bytes)
+    × (reading.offset ≤ length bytes) × (reading.state ≡ initial_state)
 
 -- `Passes d bytes old said new`: the lines from `old` to `new` mean `said`, and end in the bytes.
 -- If there are none, `new` is `old`.

@@ -1,8 +1,8 @@
 //! Documents, entry by entry and as lists.
 
 ghost use Rattle.std.specs.Prelude.{◌≡◌, ◌+◌, ◌≤◌, length, map, Err, MatchResult};
-ghost use Rattle.format_ini.specs.Documents.{BehindMark, HasEntry, IsDocument, IsNoDocument};
-ghost use Rattle.format_ini.specs.Documents.{NextEntry, start};
+ghost use Rattle.format_ini.specs.Documents.{AfterByteOrderMark, HasEntry, IsDocument};
+ghost use Rattle.format_ini.specs.Documents.{IsNoDocument, NextEntry, initial_state};
 ghost use Rattle.format_ini.specs.Lines.{said_in};
 
 use crate::dialect::Dialect;
@@ -53,8 +53,8 @@ impl<'i> Entries<'i> {
     /// Returns the entries of a text, from its first one on. Skips a byte order mark at the start.
     pub fn new(dialect: Dialect, text: &'i str) -> Entries<'i>
         ensures dialect { result.dialect ≡ dialect }
-        ensures rest { BehindMark text.now result.rest.now }
-        ensures state { result.state ≡ start }
+        ensures rest { AfterByteOrderMark text.now result.rest.now }
+        ensures state { result.state ≡ initial_state }
     {
         Entries {
             dialect,
@@ -91,7 +91,7 @@ impl<'i> Entries<'i> {
 
 // Skips a byte order mark at the start of `text`.
 fn skip_byte_order_mark(text: &str) -> &str
-    ensures { BehindMark text.now result.now }
+    ensures { AfterByteOrderMark text.now result.now }
 {
     match text.strip_prefix('\u{feff}') {
         Some(rest) => rest,

@@ -3,9 +3,9 @@
 ghost use Rattle.std.specs.Prelude.{◌≡◌, ◌<◌, ◌+◌, ◌∷◌, [], true, length, take, drop, slice_index};
 ghost use Rattle.std.specs.Prelude.{MatchBool, MatchOption};
 ghost use Rattle.std.specs.List.{All};
-ghost use Rattle.format_ini.specs.Front.{CutAt, CutAtLast, FirstLine, IsKept, IsStop};
-ghost use Rattle.format_ini.specs.Front.{KeepsSoMany, StartsWith};
-ghost use Rattle.format_ini.specs.Front.{NotFirst, StopsAt, indent_of, trimmed};
+ghost use Rattle.format_ini.specs.Front.{CutAt, CutAtLast, FirstLine, IsWithoutComment, IsStop};
+ghost use Rattle.format_ini.specs.Front.{KeepsSoMany, StartsWith, NotFirst, StopsAt, indent_of};
+ghost use Rattle.format_ini.specs.Front.{trimmed};
 ghost use Rattle.format_ini.specs.Marks.{IsMark};
 
 use crate::dialect::{Delimiters, Marks, is_delimiter, is_mark};
@@ -167,7 +167,7 @@ fn kept_len(marks: Marks, line: &[u8]) -> usize
 
 // A line without a comment of these marks.
 pub(crate) fn without_comment(marks: Marks, line: &str) -> &str
-    ensures { IsKept marks line.now result.now }
+    ensures { IsWithoutComment marks line.now result.now }
 {
     let size = kept_len(marks, line.as_bytes());
     if size < line.len() {

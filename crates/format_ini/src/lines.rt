@@ -3,10 +3,10 @@
 ghost use Rattle.std.specs.Prelude.{◌≡◌, ◌⊎◌, ◌≤◌, ◌<◌, ◌+◌, ◌^◌, [], List, ℕ};
 ghost use Rattle.std.specs.Prelude.{IfOk, MatchOption, MatchResult, false, length};
 ghost use Rattle.format_ini.specs.Front.{StartsWith};
-ghost use Rattle.format_ini.specs.Lines.{IdleSays, IsHead, IsLooseSection, IsPair, IsSection};
-ghost use Rattle.format_ini.specs.Lines.{Lacks, LacksOwn, NoHead, NoLoose, NoPair};
-ghost use Rattle.format_ini.specs.Lines.{NoSection, OwnSays, Step, is_deeper, pair_at, said_of};
-ghost use Rattle.format_ini.specs.Lines.{value_of};
+ghost use Rattle.format_ini.specs.Lines.{IdleLineMeans, IsInvalidFor, IsLooseSection, IsPair};
+ghost use Rattle.format_ini.specs.Lines.{IsSection, IsSectionHead, NoLooseSection, NoPair};
+ghost use Rattle.format_ini.specs.Lines.{NoSection, NoSectionHead, OwnLineIsInvalid, OwnLineMeans};
+ghost use Rattle.format_ini.specs.Lines.{Step, continued_indent, is_deeper, said_of, value_of};
 ghost use Rattle.format_ini.specs.Places.{BehindBlanks, SaidAt, ValueAt};
 ghost use Rattle.format_ini.specs.declared.dialect.Dialect.{Dialect};
 
@@ -111,7 +111,7 @@ fn read_section(text: &str) -> Result<&str, Reason>
 // Returns the name of the section that begins, up to the last `]`, or `None` if there is none.
 fn read_loose(text: &str) -> Option<&str>
     requires { StartsWith (λ b. b ≡ 91) text.now }
-    ensures { MatchOption result (NoLoose text.now)
+    ensures { MatchOption result (NoLooseSection text.now)
         (λ name. IsLooseSection text.now name.now) }
 {
     let (_, inside) = around(text, 0);
@@ -125,8 +125,8 @@ fn read_loose(text: &str) -> Option<&str>
 fn read_head(dialect: Dialect, text: &str) -> Result<Option<&str>, Reason>
     requires { 0 < length text.now }
     ensures { MatchResult result
-        (λ head. MatchOption head (NoHead dialect text.now)
-        (λ name. IsHead dialect text.now name.now))
+        (λ head. MatchOption head (NoSectionHead dialect text.now)
+        (λ name. IsSectionHead dialect text.now name.now))
         (λ why. StartsWith (λ b. b ≡ 91) text.now × (dialect.loose_sections ≡ false)
         × NoSection text.now why) }
 {
@@ -186,7 +186,7 @@ fn read_pair<'i>(dialect: Dialect, place: usize, text: &'i str) -> Result<Pair<'
 
 // Returns the indentation of the pair that the next line may continue, after a pair.
 fn after_pair(continued: Continued, indent: usize, value: Option<&str>) -> Option<usize>
-    ensures { result ≡ pair_at continued indent (value_of value.entry) }
+    ensures { result ≡ continued_indent continued indent (value_of value.entry) }
 {
     match continued {
         Continued::Never => None,
@@ -208,8 +208,8 @@ fn read_own<'i>(
     requires some { 0 < length text.now }
     requires within { place + length text.now < 2 ^ 63 }
     ensures said { MatchResult result
-        (λ line. OwnSays dialect state indent text.now (said_of line.entry) line.next)
-        (λ why. LacksOwn dialect state text.now why) }
+        (λ line. OwnLineMeans dialect state indent text.now (said_of line.entry) line.next)
+        (λ why. OwnLineIsInvalid dialect state text.now why) }
     ensures at { IfOk result (λ line. SaidAt dialect place text.now line.entry line.at) }
 {
     if let Some(name) = read_head(dialect, text)? {
@@ -240,7 +240,7 @@ fn read_own<'i>(
 
 // Returns the meaning of an empty line or a comment that begins at `place`.
 fn read_idle<'i>(continued: Continued, state: State, is_empty: bool, place: usize) -> Line<'i>
-    ensures said { IdleSays continued state is_empty (said_of result.entry) result.next }
+    ensures said { IdleLineMeans continued state is_empty (said_of result.entry) result.next }
     ensures at { (dialect : Dialect) (line : List ℕ)
         → SaidAt dialect place line result.entry result.at }
 {
@@ -291,7 +291,7 @@ pub(crate) fn read_line<'i>(
     requires { place + length line.now < 2 ^ 63 }
     ensures said { MatchResult result
         (λ it. Step dialect state line.now (said_of it.entry) it.next)
-        (λ why. Lacks dialect state line.now why) }
+        (λ why. IsInvalidFor dialect state line.now why) }
     ensures at { IfOk result (λ it. SaidAt dialect place line.now it.entry it.at) }
 {
     let kept = without_comment(dialect.inline_comments, line);

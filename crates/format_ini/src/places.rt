@@ -1,7 +1,7 @@
 //! Consecutive entries of bytes with their offsets, by successive calls.
 
 ghost use Rattle.std.specs.Prelude.{◌≤◌, ◌<◌, ◌+◌, List, drop, length, MatchOption, MatchResult, ℕ};
-ghost use Rattle.format_ini.specs.Documents.{BehindMark};
+ghost use Rattle.format_ini.specs.Documents.{AfterByteOrderMark};
 ghost use Rattle.format_ini.specs.Front.{FirstLine};
 ghost use Rattle.format_ini.specs.Places.{IsAtStart, LineAt, NextPlaced, StopsAtLine};
 
@@ -60,7 +60,7 @@ impl Reading {
 
 // Returns the length in bytes of the byte order mark at the start, or 0.
 fn mark_len(bytes: &[u8]) -> usize
-    ensures { BehindMark bytes.now (drop result bytes.now) × (result ≤ length bytes.now) }
+    ensures { AfterByteOrderMark bytes.now (drop result bytes.now) × (result ≤ length bytes.now) }
 {
     if bytes.starts_with(b"\xef\xbb\xbf") {
         3

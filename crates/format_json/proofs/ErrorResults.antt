@@ -9,9 +9,9 @@ use Rattle.format_json.specs.Fault.{IsErrorOf, write_fault}
 use Rattle.format_json.specs.declared.fault.JsonError.TheVariants as faults
 use Rattle.format_json.specs.declared.fault.JsonWriteError.{JsonWriteError}
 use Rattle.format_json.specs.declared.fault.JsonWriteError.TheVariants as unwritten
-use Rattle.format_json_pieces.specs.Begun.{MayBegin}
+use Rattle.format_json_pieces.specs.Begun.{IsViableText}
 use Rattle.format_json_pieces.specs.Place.{IsPlace}
-use Rattle.format_json_pieces.proofs.Walks.{begun_front}
+use Rattle.format_json_pieces.proofs.Walks.{viable_prefix_of_viable}
 use Rattle.format_json_pieces.specs.declared.begun.Bracket.TheVariants.{Whole}
 use Rattle.format_json_pieces.specs.declared.begun.Mode.TheVariants.{Value}
 use Rattle.format_json_pieces.specs.declared.expected.Expected.{Expected}
@@ -23,16 +23,16 @@ use Rattle.text_positions.specs.Position.{IsPosition}
 
 module _ (level : ℕ) where
   -- fewer bytes may begin a text too
-  fewer : (front : List ℕ) (m : ℕ) → MayBegin level front → MayBegin level (take m front)
+  fewer : (front : List ℕ) (m : ℕ) → IsViableText level front → IsViableText level (take m front)
   fewer front m x =
-      begun_front (suc level) (take m front) (drop m front) Value (Whole ∷ [])
-      (subst (λ l. MayBegin level l) (sym (take-append-drop m front)) x)
+      viable_prefix_of_viable (suc level) (take m front) (drop m front) Value (Whole ∷ [])
+      (subst (λ l. IsViableText level l) (sym (take-append-drop m front)) x)
 
   before_place : (bytes : List ℕ) (n : ℕ) (expected : Expected) (m : ℕ)
-      → IsPlace level bytes n expected → m ≤ n → MayBegin level (take m bytes)
+      → IsPlace level bytes n expected → m ≤ n → IsViableText level (take m bytes)
   before_place bytes n expected m (front, rest, e, size, x, stops, asks) few =
       let le : m ≤ length front = omega (arith, size, few) in
-      subst (λ l. MayBegin level l)
+      subst (λ l. IsViableText level l)
       (sym (ap (λ l. take m l) e ∙ take-append-le m front rest le)) (fewer front m x)
 
   pub told_utf8 : (bytes : List ℕ) (at : Location) (valid n : ℕ) (expected : Expected)
@@ -40,7 +40,7 @@ module _ (level : ℕ) where
       → IsPlace level bytes n expected → valid ≤ n → IsErrorOf level bytes (faults.NotUtf8 at)
   told_utf8 bytes at valid n expected broken longest location place before =
       let P : ℕ → Type 0 = λ m.
-      (IsUtf8 bytes → ⊥) × (m ≡ utf8_valid_len bytes) × MayBegin level (take m bytes)
+      (IsUtf8 bytes → ⊥) × (m ≡ utf8_valid_len bytes) × IsViableText level (take m bytes)
       × IsPosition (chars (take m bytes)) at.line at.column in
       subst P (sym location.0) (
         broken,

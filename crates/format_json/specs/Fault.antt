@@ -6,7 +6,7 @@ use Rattle.format_json.specs.declared.fault.JsonError.{JsonError}
 use Rattle.format_json.specs.declared.fault.JsonError.TheVariants as faults
 use Rattle.format_json.specs.declared.fault.JsonWriteError.{JsonWriteError}
 use Rattle.format_json.specs.declared.fault.JsonWriteError.TheVariants as unwritten
-use Rattle.format_json_pieces.specs.Begun.{MayBegin}
+use Rattle.format_json_pieces.specs.Begun.{IsViableText}
 use Rattle.format_json_pieces.specs.Place.{IsPlace}
 use Rattle.format_json_pieces.specs.declared.expected.Expected.TheVariants.{NoDeeper}
 use Rattle.format_json_writer.specs.declared.error.WriteError.{WriteError}
@@ -38,7 +38,7 @@ IsErrorOf level bytes (faults.TooDeep at most) =
     × IsLocated bytes at
 IsErrorOf level bytes (faults.NotUtf8 at) =
     (IsUtf8 bytes → ⊥) × (at.offset ≡ utf8_valid_len bytes)
-    × MayBegin level (take at.offset bytes)
+    × IsViableText level (take at.offset bytes)
     × IsPosition (chars (take at.offset bytes)) at.line at.column
 IsErrorOf level bytes faults.NoMemory = ⊤
 

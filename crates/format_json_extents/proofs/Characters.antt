@@ -10,10 +10,11 @@ use Rattle.std.proofs.lemmas.List.Elements.{All-append, All-cons, All-from_recur
 use Rattle.std.proofs.lemmas.List.Elements.{All-nil, All-tail, All-weaker}
 use Rattle.std.proofs.lemmas.Str.{cons_from_encodes, encode_ascii, encodes-append}
 use Rattle.std.proofs.Math.Utf8.{low_scalar}
-use Rattle.format_json_extents.specs.Texts.{AreTwo, Either, IsByte, Maybe, Then}
-use Rattle.format_json_extents.specs.Value.{Only}
-use Rattle.format_json_extents.specs.Number.{IsDigit, IsDigits, IsE, IsLeading, IsMinus, IsNumber}
-use Rattle.format_json_extents.specs.Number.{IsNumeral, IsPoint, IsSign, IsZero}
+use Rattle.format_json_extents.specs.Texts.{AreTwoBytes, Either, IsByte, Maybe, Then}
+use Rattle.format_json_extents.specs.Value.{Exactly}
+use Rattle.format_json_extents.specs.Number.{IsByteOfNumber, IsDecimalPoint, IsDigit, IsDigits}
+use Rattle.format_json_extents.specs.Number.{IsExponentLetter, IsMinus, IsNonzeroDigit, IsNumber}
+use Rattle.format_json_extents.specs.Number.{IsSign, IsZero}
 use Rattle.streams.specs.Utf8.{four_bytes, three_bytes, two_bytes}
 
 -- ---- a byte of ASCII is the first character
@@ -33,12 +34,12 @@ first_byte b cs low = ap (λ l. l ++ encode_utf8_all cs) (encode_ascii b low)
 pub record Consists (Q : ℕ → Type 0) (P : List ℕ → Type 0) : Type 0 where
   pub each : (text : List ℕ) → P text → All Q text
 
-abbrev pub AreLow : List ℕ → Type 0
-AreLow = All (λ b. b < 128)
+abbrev pub AreAscii : List ℕ → Type 0
+AreAscii = All (λ b. b < 128)
 
--- `IsLow P`: each text in `P` consists of ASCII bytes.
-abbrev pub IsLow : (List ℕ → Type 0) → Type 0
-IsLow = Consists (λ b. b < 128)
+-- `IsAscii P`: each text in `P` consists of ASCII bytes.
+abbrev pub IsAscii : (List ℕ → Type 0) → Type 0
+IsAscii = Consists (λ b. b < 128)
 
 pub all_one : (Q : ℕ → Type 0) (b : ℕ) → Q b → All Q (b ∷ [])
 all_one Q b is = All-cons Q b [] is (All-nil Q)
@@ -50,7 +51,7 @@ module _ {Q : ℕ → Type 0} where
         subst (All Q) (sym is.alone) (all_one Q is.byte (into is.byte is.is_byte));
   }
 
-  pub two_in : (P : ℕ → ℕ → Type 0) → ((a b : ℕ) → P a b → Q a × Q b) → Consists Q (AreTwo P)
+  pub two_in : (P : ℕ → ℕ → Type 0) → ((a b : ℕ) → P a b → Q a × Q b) → Consists Q (AreTwoBytes P)
   two_in P into = record {
     each = λ text is.
         let (a, b) = into is.one is.two is.are_bytes in
@@ -80,9 +81,9 @@ module _ {Q : ℕ → Type 0} where
   pub all_in : (P : ℕ → Type 0) → ((b : ℕ) → P b → Q b) → Consists Q (All P)
   all_in P into = record { each = λ text all. All-weaker P Q into text all }
 
-pub only_low : (word : List ℕ) → AllByRecursion (λ b. b < 128) word → IsLow (Only word)
+pub only_low : (word : List ℕ) → AllByRecursion (λ b. b < 128) word → IsAscii (Exactly word)
 only_low word low = record {
-  each = λ text e. subst AreLow (sym e) (All-from_recursion (λ b. b < 128) word low);
+  each = λ text e. subst AreAscii (sym e) (All-from_recursion (λ b. b < 128) word low);
 }
 
 -- ---- spellings of characters
@@ -136,49 +137,49 @@ in_utf8 = record {
       subst (All (λ b. 128 ≤ b)) (sym (append-nil (encode_utf8 c))) (high_bytes c high);
 }
 
-pub low_on : (e : Spelling) (bytes : List ℕ) → AreLow bytes → e.on bytes ≡ bytes
+pub low_on : (e : Spelling) (bytes : List ℕ) → AreAscii bytes → e.on bytes ≡ bytes
 low_on e [] all = e.nothing
 low_on e (b ∷ bytes) all =
     e.low b bytes (All-head (λ b. b < 128) b bytes all)
     ∙ ap (λ l. b ∷ l) (low_on e bytes (All-tail (λ b. b < 128) b bytes all))
 
-pub low_front : (text cs rest : List ℕ) → AreLow text → encode_utf8_all cs ≡ text ++ rest
+pub ascii_prefix : (text cs rest : List ℕ) → AreAscii text → encode_utf8_all cs ≡ text ++ rest
     → (es : List ℕ) × (cs ≡ text ++ es) × (encode_utf8_all es ≡ rest)
-low_front [] cs rest all e = (cs, refl, e)
-low_front (b ∷ text) cs rest all e =
+ascii_prefix [] cs rest all e = (cs, refl, e)
+ascii_prefix (b ∷ text) cs rest all e =
     let (es, f, g) = first_char cs (text ++ rest) b (All-head (λ b. b < 128) b text all) e in
-    let (ds, h, k) = low_front text es rest (All-tail (λ b. b < 128) b text all) g in
+    let (ds, h, k) = ascii_prefix text es rest (All-tail (λ b. b < 128) b text all) g in
     (ds, f ∙ ap (λ l. b ∷ l) h, k)
 
 -- ---- numbers
 
-digits_in : Consists IsNumeral IsDigits
+digits_in : Consists IsByteOfNumber IsDigits
 digits_in = then_in (byte_in IsDigit (λ b d. inl d)) (all_in IsDigit (λ b d. inl d))
 
-pub number_numerals : Consists IsNumeral IsNumber
+pub number_numerals : Consists IsByteOfNumber IsNumber
 number_numerals =
     then_in (maybe_in (byte_in IsMinus (λ b e. grind (arith, e))))
     (then_in (either_in (byte_in IsZero (λ b e. grind (arith, e)))
-    (then_in (byte_in IsLeading (λ b is. grind (arith, is))) (all_in IsDigit (λ b d. inl d))))
-    (then_in (maybe_in (then_in (byte_in IsPoint (λ b e. inr (inl e))) digits_in))
-    (maybe_in (then_in (byte_in IsE (λ b is. inr (inr (inl is))))
+    (then_in (byte_in IsNonzeroDigit (λ b is. grind (arith, is))) (all_in IsDigit (λ b d. inl d))))
+    (then_in (maybe_in (then_in (byte_in IsDecimalPoint (λ b e. inr (inl e))) digits_in))
+    (maybe_in (then_in (byte_in IsExponentLetter (λ b is. inr (inr (inl is))))
     (then_in (maybe_in (byte_in IsSign (λ b is. inr (inr (inr is))))) digits_in)))))
 
-pub number_low : IsLow IsNumber
+pub number_low : IsAscii IsNumber
 number_low = record {
   each = λ text is.
-      All-weaker IsNumeral (λ b. b < 128) (λ b numeral. grind (arith, numeral)) text
+      All-weaker IsByteOfNumber (λ b. b < 128) (λ b numeral. grind (arith, numeral)) text
       (number_numerals.each text is);
 }
 
 -- ---- what is ASCII is UTF-8
 
-low_scalars : (bytes : List ℕ) → AreLow bytes → all_scalars bytes ≡ true
+low_scalars : (bytes : List ℕ) → AreAscii bytes → all_scalars bytes ≡ true
 low_scalars [] all = refl
 low_scalars (b ∷ bytes) all =
     let low = All-head (λ b. b < 128) b bytes all in
     and_true _ (all_scalars bytes) (low_scalar b (omega (arith, low)))
     (low_scalars bytes (All-tail (λ b. b < 128) b bytes all))
 
-pub low_utf8 : (bytes : List ℕ) → AreLow bytes → IsUtf8 bytes
-low_utf8 bytes all = (bytes, (low_scalars bytes all, low_on in_utf8 bytes all))
+pub ascii_is_utf8 : (bytes : List ℕ) → AreAscii bytes → IsUtf8 bytes
+ascii_is_utf8 bytes all = (bytes, (low_scalars bytes all, low_on in_utf8 bytes all))

@@ -5,12 +5,15 @@ use Rattle.std.proofs.Common.{slice_index_or, subst, sym}
 use Rattle.std.proofs.lemmas.List.{append-nil}
 use Rattle.std.specs.Char.{IsScalar, encode_utf8}
 use Rattle.std.proofs.lemmas.Str.{len_utf8_bounds, length-encode}
-use Rattle.format_json_extents.proofs.Matching.{this_then}
+use Rattle.format_json_extents.proofs.Matching.{given_byte_then_is_cons}
 use Rattle.format_json_extents.proofs.Written.Escapes.{EscapedText, free_scalar, high_scalar}
 use Rattle.format_json_extents.proofs.Written.Escapes.{pair_joins, pair_text}
-use Rattle.format_json_extents.proofs.Written.Units.{IsHigh, IsLow, high_ranges, low_ranges}
-use Rattle.format_json_extents.proofs.Written.Units.{only_ranges, unit_in, unit_list, unit_size}
-use Rattle.format_json_extents.specs.Strings.{BeginOnly, IsEscape, IsPair, IsUnit}
+use Rattle.format_json_extents.proofs.Written.Units.{IsHighSurrogate, IsLowSurrogate}
+use Rattle.format_json_extents.proofs.Written.Units.{high_surrogate_ranges, low_surrogate_ranges}
+use Rattle.format_json_extents.proofs.Written.Units.{non_surrogate_ranges, unit_in, unit_list}
+use Rattle.format_json_extents.proofs.Written.Units.{unit_size}
+use Rattle.format_json_extents.specs.Strings.{BeginNonSurrogate, IsCodeUnit, IsEscape}
+use Rattle.format_json_extents.specs.Strings.{IsSurrogatePair}
 use Rattle.format_json_texts.specs.Strings.{EscapeText, StandsFor, UnicodeText}
 use Rattle.format_parts.specs.Hexadecimal.{UnitText}
 use Rattle.format_parts.specs.Words.{Whichever}
@@ -44,7 +47,7 @@ counted_letter (b ∷ []) k least most is = letter_text b k is
 counted_letter (b ∷ c ∷ l) k least most is = absurd (omega (arith, most))
 
 -- the bytes from a number on are four digits, and then more
-unit_at : {P : ℕ → ℕ → Type 0} (u : ℕ) (cs more : List ℕ) → IsUnit P cs
+unit_at : {P : ℕ → ℕ → Type 0} (u : ℕ) (cs more : List ℕ) → IsCodeUnit P cs
     → UnitText u (at (cs ++ more) 0 ∷ at (cs ++ more) 1 ∷ at (cs ++ more) 2 ∷ at (cs ++ more) 3
     ∷ []) → UnitText u cs
 unit_at u cs more is =
@@ -60,14 +63,16 @@ pub counted_single : {l : List ℕ} {u : ℕ} → IsEscape l → 5 ≤ length l 
     → UnitText u (at l 1 ∷ at l 2 ∷ at l 3 ∷ at l 4 ∷ []) → Single l u
 unfolding EitherText MadeText
 counted_single (inl is) least most x = absurd (omega (arith, least, ap (λ l. length l) is.alone))
-counted_single {l} {u} (inr is) least most x = by is.second is.is_second (this_then 117 is)
+counted_single {l} {u} (inr is) least most x =
+    by is.second is.is_second (given_byte_then_is_cons 117 is)
   where
-    by : (cs : List ℕ) → IsUnit BeginOnly cs ⊎ IsPair cs → l ≡ 117 ∷ cs → Single l u
+    by : (cs : List ℕ) → IsCodeUnit BeginNonSurrogate cs ⊎ IsSurrogatePair cs → l ≡ 117 ∷ cs
+        → Single l u
     by cs (inl unit) e =
         let y = unit_at u cs [] unit
         (subst (λ m. UnitText u (at m 1 ∷ at m 2 ∷ at m 3 ∷ at m 4 ∷ []))
         (e ∙ ap (λ m. 117 ∷ m) (sym (append-nil cs))) x) in
-        let free = unit_in only_ranges cs u y unit in
+        let free = unit_in non_surrogate_ranges cs u y unit in
         record { scalar = free_scalar u free; text = unicode u cs l (inl (u, y, (refl, free))) e }
     by cs (inr pair) e =
         absurd (omega (
@@ -80,8 +85,8 @@ counted_single {l} {u} (inr is) least most x = by is.second is.is_second (this_t
 
 -- an escape of two units
 pub record Double (l : List ℕ) (high low : ℕ) : Type 0 where
-  pub is_high : IsHigh high
-  pub is_low : IsLow low
+  pub is_high : IsHighSurrogate high
+  pub is_low : IsLowSurrogate low
   pub scalar : IsScalar (65536 + (high - 55296) * 1024 + (low - 56320))
   pub text : EscapeText (65536 + (high - 55296) * 1024 + (low - 56320)) (92 ∷ l)
 
@@ -92,9 +97,10 @@ unfolding EitherText
 counted_double (inl is) least most x y =
     absurd (omega (arith, least, ap (λ l. length l) is.alone))
 counted_double {l} {high} {low} (inr is) least most x y =
-    by is.second is.is_second (this_then 117 is)
+    by is.second is.is_second (given_byte_then_is_cons 117 is)
   where
-    by : (cs : List ℕ) → IsUnit BeginOnly cs ⊎ IsPair cs → l ≡ 117 ∷ cs → Double l high low
+    by : (cs : List ℕ) → IsCodeUnit BeginNonSurrogate cs ⊎ IsSurrogatePair cs → l ≡ 117 ∷ cs
+        → Double l high low
     by cs (inl unit) e =
         absurd (omega (arith, least, unit_size cs unit, ap (λ m. length m) e))
     by cs (inr pair) e =
@@ -109,8 +115,8 @@ counted_double {l} {high} {low} (inr is) least most x y =
         (subst (λ m. UnitText low (at m 7 ∷ at m 8 ∷ at m 9 ∷ at m 10 ∷ []))
         (all ∙ ap (λ m. 117 ∷ (first ++ 92 ∷ 117 ∷ m)) (sym (append-nil last))
         ∙ ap (λ m. 117 ∷ (m ++ 92 ∷ 117 ∷ (last ++ []))) (unit_list first pair.is_first)) y) in
-        let is_high = unit_in high_ranges first high v pair.is_first in
-        let is_low = unit_in low_ranges last low w letter.is_second in
+        let is_high = unit_in high_surrogate_ranges first high v pair.is_first in
+        let is_low = unit_in low_surrogate_ranges last low w letter.is_second in
         let k = 65536 + (high - 55296) * 1024 + (low - 56320) in
         record {
           is_high = is_high;

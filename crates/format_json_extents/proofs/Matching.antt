@@ -4,39 +4,40 @@ use Rattle.std.proofs.Common.{append_assoc, arith, inl, inr, length, length-appe
 use Rattle.std.proofs.Common.{sym}
 use Rattle.std.specs.List.{All}
 use Rattle.std.proofs.lemmas.List.Elements.{All-head, All-push, All-tail}
-use Rattle.format_json_extents.specs.Texts.{Either, IsByte, IsLongerRest, MatchesAtStart, Maybe}
-use Rattle.format_json_extents.specs.Texts.{Never, NoneStands, Or, RestAfter, Then}
+use Rattle.format_json_extents.specs.Texts.{Either, EitherByte, IsByte, IsLongerRest}
+use Rattle.format_json_extents.specs.Texts.{MatchesAtStart, Maybe, NoByte, NoMatchAtStart}
+use Rattle.format_json_extents.specs.Texts.{RestAfter, Then}
 
 -- No byte is in both.
-abbrev pub Apart : (S T : ℕ → Type 0) → Type 0
-Apart S T = (b : ℕ) → S b → T b → ⊥
+abbrev pub AreDisjoint : (S T : ℕ → Type 0) → Type 0
+AreDisjoint S T = (b : ℕ) → S b → T b → ⊥
 
--- `Bars Q S`: no text in `Q` starts with a byte of `S`.
-abbrev pub Bars : (Q : List ℕ → Type 0) (S : ℕ → Type 0) → Type 0
-Bars Q S = (bytes rest : List ℕ) (b : ℕ) (more : List ℕ) → bytes ≡ b ∷ more → S b
+-- `NeverStartsWith Q S`: no text in `Q` starts with a byte of `S`.
+abbrev pub NeverStartsWith : (Q : List ℕ → Type 0) (S : ℕ → Type 0) → Type 0
+NeverStartsWith Q S = (bytes rest : List ℕ) (b : ℕ) (more : List ℕ) → bytes ≡ b ∷ more → S b
     → MatchesAtStart Q bytes rest → ⊥
 
--- `Stays Q S`: at a byte of `S`, the empty text is the only prefix in `Q`.
-abbrev pub Stays : (Q : List ℕ → Type 0) (S : ℕ → Type 0) → Type 0
-Stays Q S = (bytes rest : List ℕ) (b : ℕ) (more : List ℕ) → bytes ≡ b ∷ more → S b
+-- `ContinuedOnlyBy Q S`: at a byte of `S`, the empty text is the only prefix in `Q`.
+abbrev pub ContinuedOnlyBy : (Q : List ℕ → Type 0) (S : ℕ → Type 0) → Type 0
+ContinuedOnlyBy Q S = (bytes rest : List ℕ) (b : ℕ) (more : List ℕ) → bytes ≡ b ∷ more → S b
     → MatchesAtStart Q bytes rest → rest ≡ bytes
 
--- `Begins F text`: the first byte of `text` is in `F`.
-pub record Begins (F : ℕ → Type 0) (text : List ℕ) : Type 0 where
+-- `FirstByteIs F text`: the first byte of `text` is in `F`.
+pub record FirstByteIs (F : ℕ → Type 0) (text : List ℕ) : Type 0 where
   pub byte : ℕ
   pub more : List ℕ
   pub begins : text ≡ byte ∷ more
   pub is : F byte
 
--- `Starts P F`: each text in `P` starts with a byte of `F`.
-abbrev pub Starts : (P : List ℕ → Type 0) (F : ℕ → Type 0) → Type 0
-Starts P F = (text : List ℕ) → P text → Begins F text
+-- `AllStartWith P F`: each text in `P` starts with a byte of `F`.
+abbrev pub AllStartWith : (P : List ℕ → Type 0) (F : ℕ → Type 0) → Type 0
+AllStartWith P F = (text : List ℕ) → P text → FirstByteIs F text
 
-pub same_first : {x y : ℕ} {xs ys : List ℕ} → x ∷ xs ≡ y ∷ ys → x ≡ y
-same_first e = cc
+pub heads_equal : {x y : ℕ} {xs ys : List ℕ} → x ∷ xs ≡ y ∷ ys → x ≡ y
+heads_equal e = cc
 
-pub same_rest : {x y : ℕ} {xs ys : List ℕ} → x ∷ xs ≡ y ∷ ys → xs ≡ ys
-same_rest e = cc
+pub tails_equal : {x y : ℕ} {xs ys : List ℕ} → x ∷ xs ≡ y ∷ ys → xs ≡ ys
+tails_equal e = cc
 
 pub shorter : {P : List ℕ → Type 0} {bytes rest : List ℕ} → MatchesAtStart P bytes rest
     → length rest ≤ length bytes
@@ -45,12 +46,12 @@ shorter {rest = rest} it =
 
 -- ---- one byte
 
-pub one : {P : ℕ → Type 0} {b : ℕ} {text : List ℕ} → P b → text ≡ b ∷ [] → IsByte P text
-one {b = b} p e = record { byte = b; is_byte = p; alone = e }
+pub one_byte_text : {P : ℕ → Type 0} {b : ℕ} {text : List ℕ} → P b → text ≡ b ∷ [] → IsByte P text
+one_byte_text {b = b} p e = record { byte = b; is_byte = p; alone = e }
 
 pub byte_matches : {P : ℕ → Type 0} {bytes : List ℕ} {b : ℕ} {rest : List ℕ} → bytes ≡ b ∷ rest
     → P b → MatchesAtStart (IsByte P) bytes rest
-byte_matches {b = b} e p = record { text = b ∷ []; is = one p refl; splits = e }
+byte_matches {b = b} e p = record { text = b ∷ []; is = one_byte_text p refl; splits = e }
 
 pub byte_first : {P : ℕ → Type 0} {bytes rest : List ℕ}
     → (it : MatchesAtStart (IsByte P) bytes rest) → bytes ≡ it.is.byte ∷ rest
@@ -60,30 +61,31 @@ pub this_first : (c : ℕ) {bytes rest : List ℕ} → MatchesAtStart (IsByte (�
     → bytes ≡ c ∷ rest
 this_first c {rest = rest} it = byte_first it ∙ ap (λ b. b ∷ rest) it.is.is_byte
 
-pub byte_leaves : {P : ℕ → Type 0} {bytes : List ℕ} {b : ℕ} {rest : List ℕ} → bytes ≡ b ∷ rest
-    → P b → RestAfter (IsByte P) Never bytes rest
-byte_leaves e p = record {
+pub rest_after_byte : {P : ℕ → Type 0} {bytes : List ℕ} {b : ℕ} {rest : List ℕ} → bytes ≡ b ∷ rest
+    → P b → RestAfter (IsByte P) NoByte bytes rest
+rest_after_byte e p = record {
   stands = byte_matches e p;
-  only = λ other it. inl (same_rest (sym (byte_first it) ∙ e));
+  only = λ other it. inl (tails_equal (sym (byte_first it) ∙ e));
 }
 
-pub byte_none : {P : ℕ → Type 0} {bytes : List ℕ} {b : ℕ} {more : List ℕ} → bytes ≡ b ∷ more
-    → (P b → ⊥) → NoneStands (IsByte P) bytes
-byte_none {P} e not rest it = not (subst P (same_first (sym (byte_first it) ∙ e)) it.is.is_byte)
+pub no_byte_match : {P : ℕ → Type 0} {bytes : List ℕ} {b : ℕ} {more : List ℕ} → bytes ≡ b ∷ more
+    → (P b → ⊥) → NoMatchAtStart (IsByte P) bytes
+no_byte_match {P} e not rest it =
+    not (subst P (heads_equal (sym (byte_first it) ∙ e)) it.is.is_byte)
 
-pub this_none : (c : ℕ) {bytes : List ℕ} → ((more : List ℕ) → bytes ≡ c ∷ more → ⊥)
-    → NoneStands (IsByte (λ b. b ≡ c)) bytes
-this_none c not rest it = not rest (this_first c it)
+pub no_given_byte : (c : ℕ) {bytes : List ℕ} → ((more : List ℕ) → bytes ≡ c ∷ more → ⊥)
+    → NoMatchAtStart (IsByte (λ b. b ≡ c)) bytes
+no_given_byte c not rest it = not rest (this_first c it)
 
 -- ---- the first bytes of texts
 
-pub begins_to : {F G : ℕ → Type 0} {text : List ℕ} → ((b : ℕ) → F b → G b) → Begins F text
-    → Begins G text
+pub begins_to : {F G : ℕ → Type 0} {text : List ℕ} → ((b : ℕ) → F b → G b) → FirstByteIs F text
+    → FirstByteIs G text
 begins_to to it =
     record { byte = it.byte; more = it.more; begins = it.begins; is = to it.byte it.is }
 
 begins_more : {F : ℕ → Type 0} {front text : List ℕ} (more : List ℕ) → text ≡ front ++ more
-    → Begins F front → Begins F text
+    → FirstByteIs F front → FirstByteIs F text
 begins_more more e it = record {
   byte = it.byte;
   more = it.more ++ more;
@@ -91,30 +93,34 @@ begins_more more e it = record {
   is = it.is;
 }
 
-pub begins_at : {P : List ℕ → Type 0} {F : ℕ → Type 0} {bytes rest : List ℕ} → Starts P F
-    → MatchesAtStart P bytes rest → Begins F bytes
-begins_at {rest = rest} starts it = begins_more rest it.splits (starts it.text it.is)
+pub first_byte_of_match : {P : List ℕ → Type 0} {F : ℕ → Type 0} {bytes rest : List ℕ}
+    → AllStartWith P F
+    → MatchesAtStart P bytes rest → FirstByteIs F bytes
+first_byte_of_match {rest = rest} starts it = begins_more rest it.splits (starts it.text it.is)
 
-pub starts_bars : {P : List ℕ → Type 0} {F S : ℕ → Type 0} → Starts P F → Apart S F → Bars P S
-starts_bars {F = F} starts apart bytes rest b more e s it =
-    let c = begins_at starts it in apart b s (subst F (same_first (sym c.begins ∙ e)) c.is)
+pub disjoint_never_starts : {P : List ℕ → Type 0} {F S : ℕ → Type 0} → AllStartWith P F
+    → AreDisjoint S F → NeverStartsWith P S
+disjoint_never_starts {F = F} starts apart bytes rest b more e s it =
+    let c = first_byte_of_match starts it
+    in apart b s (subst F (heads_equal (sym c.begins ∙ e)) c.is)
 
-pub starts_none : {P Q : List ℕ → Type 0} {F : ℕ → Type 0} {bytes rest : List ℕ} → Starts P F
-    → Bars Q F → MatchesAtStart P bytes rest → NoneStands Q bytes
+pub starts_none : {P Q : List ℕ → Type 0} {F : ℕ → Type 0} {bytes rest : List ℕ} → AllStartWith P F
+    → NeverStartsWith Q F → MatchesAtStart P bytes rest → NoMatchAtStart Q bytes
 starts_none {bytes = bytes} starts bars it other second =
-    let b = begins_at starts it in bars bytes other b.byte b.more b.begins b.is second
+    let b = first_byte_of_match starts it in bars bytes other b.byte b.more b.begins b.is second
 
-pub none_first : {P : List ℕ → Type 0} {F : ℕ → Type 0} {bytes : List ℕ} {b : ℕ} {more : List ℕ}
-    → Starts P F → bytes ≡ b ∷ more → (F b → ⊥) → NoneStands P bytes
-none_first {F = F} starts e not rest it =
-    let c = begins_at starts it in not (subst F (same_first (sym c.begins ∙ e)) c.is)
+pub no_match_by_first_byte : {P : List ℕ → Type 0} {F : ℕ → Type 0} {bytes : List ℕ} {b : ℕ}
+    {more : List ℕ}
+    → AllStartWith P F → bytes ≡ b ∷ more → (F b → ⊥) → NoMatchAtStart P bytes
+no_match_by_first_byte {F = F} starts e not rest it =
+    let c = first_byte_of_match starts it in not (subst F (heads_equal (sym c.begins ∙ e)) c.is)
 
-pub none_empty : {P : List ℕ → Type 0} {F : ℕ → Type 0} {bytes : List ℕ} → Starts P F
-    → length bytes ≡ 0 → NoneStands P bytes
+pub none_empty : {P : List ℕ → Type 0} {F : ℕ → Type 0} {bytes : List ℕ} → AllStartWith P F
+    → length bytes ≡ 0 → NoMatchAtStart P bytes
 none_empty starts empty rest it =
-    omega (arith, empty, ap (λ l. length l) (begins_at starts it).begins)
+    omega (arith, empty, ap (λ l. length l) (first_byte_of_match starts it).begins)
 
-pub start_less : {P : List ℕ → Type 0} {F : ℕ → Type 0} {bytes rest : List ℕ} → Starts P F
+pub start_less : {P : List ℕ → Type 0} {F : ℕ → Type 0} {bytes rest : List ℕ} → AllStartWith P F
     → MatchesAtStart P bytes rest → length rest < length bytes
 start_less {rest = rest} starts it =
     omega (
@@ -124,19 +130,20 @@ start_less {rest = rest} starts it =
       length-append it.text rest,
     )
 
-pub byte_starts : {P : ℕ → Type 0} → Starts (IsByte P) P
+pub byte_starts : {P : ℕ → Type 0} → AllStartWith (IsByte P) P
 byte_starts text it = record { byte = it.byte; more = []; begins = it.alone; is = it.is_byte }
 
-pub then_starts : {P Q : List ℕ → Type 0} {F : ℕ → Type 0} → Starts P F → Starts (Then P Q) F
+pub then_starts : {P Q : List ℕ → Type 0} {F : ℕ → Type 0} → AllStartWith P F
+    → AllStartWith (Then P Q) F
 then_starts starts text it = begins_more it.second it.joins (starts it.first it.is_first)
 
-pub either_starts : {P Q : List ℕ → Type 0} {F G : ℕ → Type 0} → Starts P F → Starts Q G
-    → Starts (Either P Q) (Or F G)
+pub either_starts : {P Q : List ℕ → Type 0} {F G : ℕ → Type 0} → AllStartWith P F → AllStartWith Q G
+    → AllStartWith (Either P Q) (EitherByte F G)
 either_starts first second text (inl is) = begins_to (λ b f. inl f) (first text is)
 either_starts first second text (inr is) = begins_to (λ b g. inr g) (second text is)
 
-pub maybe_starts : {P Q : List ℕ → Type 0} {F G : ℕ → Type 0} → Starts P F → Starts Q G
-    → Starts (Then (Maybe P) Q) (Or F G)
+pub maybe_starts : {P Q : List ℕ → Type 0} {F G : ℕ → Type 0} → AllStartWith P F → AllStartWith Q G
+    → AllStartWith (Then (Maybe P) Q) (EitherByte F G)
 maybe_starts first second text it = elim it.is_first [
   | inl e ↦
       let c = second it.second it.is_second in
@@ -151,23 +158,24 @@ maybe_starts first second text it = elim it.is_first [
 
 -- ---- one text and then another
 
-pub joined : {P Q : List ℕ → Type 0} (xs ys : List ℕ) {text : List ℕ} → P xs → Q ys
+pub then_of_parts : {P Q : List ℕ → Type 0} (xs ys : List ℕ) {text : List ℕ} → P xs → Q ys
     → text ≡ xs ++ ys → Then P Q text
-joined xs ys p q e = record { first = xs; second = ys; is_first = p; is_second = q; joins = e }
+then_of_parts xs ys p q e =
+    record { first = xs; second = ys; is_first = p; is_second = q; joins = e }
 
-pub byte_then : {P : ℕ → Type 0} {Q : List ℕ → Type 0} {text : List ℕ}
+pub byte_then_is_cons : {P : ℕ → Type 0} {Q : List ℕ → Type 0} {text : List ℕ}
     → (it : Then (IsByte P) Q text) → text ≡ it.is_first.byte ∷ it.second
-byte_then it = it.joins ∙ ap (λ l. l ++ it.second) it.is_first.alone
+byte_then_is_cons it = it.joins ∙ ap (λ l. l ++ it.second) it.is_first.alone
 
-pub this_then : (c : ℕ) {Q : List ℕ → Type 0} {text : List ℕ}
+pub given_byte_then_is_cons : (c : ℕ) {Q : List ℕ → Type 0} {text : List ℕ}
     → (it : Then (IsByte (λ b. b ≡ c)) Q text) → text ≡ c ∷ it.second
-this_then c it = byte_then it ∙ ap (λ b. b ∷ it.second) it.is_first.is_byte
+given_byte_then_is_cons c it = byte_then_is_cons it ∙ ap (λ b. b ∷ it.second) it.is_first.is_byte
 
 pub then_matches : {P Q : List ℕ → Type 0} {bytes mid rest : List ℕ} → MatchesAtStart P bytes mid
     → MatchesAtStart Q mid rest → MatchesAtStart (Then P Q) bytes rest
 then_matches {rest = rest} p q = record {
   text = p.text ++ q.text;
-  is = joined p.text q.text p.is q.is refl;
+  is = then_of_parts p.text q.text p.is q.is refl;
   splits = p.splits ∙ ap (λ l. p.text ++ l) q.splits ∙ sym (append_assoc p.text q.text rest);
 }
 
@@ -197,9 +205,11 @@ grown to (inr goes) = inr (record {
   is_more = goes.is_more;
 })
 
-pub then_leaves : {P Q : List ℕ → Type 0} {S T : ℕ → Type 0} {bytes mid rest : List ℕ} → Stays Q S
-    → RestAfter P S bytes mid → RestAfter Q T mid rest → RestAfter (Then P Q) (Or S T) bytes rest
-then_leaves {Q = Q} {rest = rest} stays p q = record {
+pub rest_after_then_either : {P Q : List ℕ → Type 0} {S T : ℕ → Type 0}
+    {bytes mid rest : List ℕ} → ContinuedOnlyBy Q S
+    → RestAfter P S bytes mid → RestAfter Q T mid rest
+    → RestAfter (Then P Q) (EitherByte S T) bytes rest
+rest_after_then_either {Q = Q} {rest = rest} stays p q = record {
   stands = then_matches p.stands q.stands;
   only = λ other it.
       let (at, first, second) = then_split it in
@@ -218,9 +228,10 @@ then_leaves {Q = Q} {rest = rest} stays p q = record {
       ];
 }
 
-pub then_exact : {P Q : List ℕ → Type 0} {S T : ℕ → Type 0} {bytes mid rest : List ℕ} → Bars Q S
+pub rest_after_then : {P Q : List ℕ → Type 0} {S T : ℕ → Type 0} {bytes mid rest : List ℕ}
+    → NeverStartsWith Q S
     → RestAfter P S bytes mid → RestAfter Q T mid rest → RestAfter (Then P Q) T bytes rest
-then_exact {Q = Q} bars p q = record {
+rest_after_then {Q = Q} bars p q = record {
   stands = then_matches p.stands q.stands;
   only = λ other it.
       let (at, first, second) = then_split it in
@@ -231,27 +242,29 @@ then_exact {Q = Q} bars p q = record {
       ];
 }
 
-pub then_none : {P Q : List ℕ → Type 0} {S : ℕ → Type 0} {bytes mid : List ℕ} → Bars Q S
-    → RestAfter P S bytes mid → NoneStands Q mid → NoneStands (Then P Q) bytes
-then_none {Q = Q} bars p none rest it =
+pub no_match_of_second : {P Q : List ℕ → Type 0} {S : ℕ → Type 0} {bytes mid : List ℕ}
+    → NeverStartsWith Q S
+    → RestAfter P S bytes mid → NoMatchAtStart Q mid → NoMatchAtStart (Then P Q) bytes
+no_match_of_second {Q = Q} bars p none rest it =
     let (at, first, second) = then_split it in
     elim (p.only at first) [
       | inl same ↦ none rest (subst (λ l. MatchesAtStart Q l rest) same second)
       | inr goes ↦ bars at rest goes.byte goes.tail goes.begins goes.is_byte second
     ]
 
-pub first_none : {P Q : List ℕ → Type 0} {bytes : List ℕ} → NoneStands P bytes
-    → NoneStands (Then P Q) bytes
-first_none none rest it = let (at, first, second) = then_split it in none at first
+pub no_match_of_first : {P Q : List ℕ → Type 0} {bytes : List ℕ} → NoMatchAtStart P bytes
+    → NoMatchAtStart (Then P Q) bytes
+no_match_of_first none rest it = let (at, first, second) = then_split it in none at first
 
-pub then_stays : {P Q : List ℕ → Type 0} {S : ℕ → Type 0} → Stays P S → Stays Q S
-    → Stays (Then P Q) S
+pub then_stays : {P Q : List ℕ → Type 0} {S : ℕ → Type 0} → ContinuedOnlyBy P S
+    → ContinuedOnlyBy Q S
+    → ContinuedOnlyBy (Then P Q) S
 then_stays p q bytes rest b more e s it =
     let (at, first, second) = then_split it in
     let same = p bytes at b more e s first in q at rest b more (same ∙ e) s second ∙ same
 
-pub never : {Q : List ℕ → Type 0} → Bars Q Never
-never bytes rest b more e s it = s
+pub never_starts_with_no_byte : {Q : List ℕ → Type 0} → NeverStartsWith Q NoByte
+never_starts_with_no_byte bytes rest b more e s it = s
 
 -- ---- one or the other
 
@@ -263,9 +276,9 @@ either_split it = elim it.is [
   | inr is ↦ inr (record { text = it.text; is = is; splits = it.splits })
 ]
 
-pub either_left : {P Q : List ℕ → Type 0} {S : ℕ → Type 0} {bytes rest : List ℕ}
-    → RestAfter P S bytes rest → NoneStands Q bytes → RestAfter (Either P Q) S bytes rest
-either_left p none = record {
+pub rest_after_left : {P Q : List ℕ → Type 0} {S : ℕ → Type 0} {bytes rest : List ℕ}
+    → RestAfter P S bytes rest → NoMatchAtStart Q bytes → RestAfter (Either P Q) S bytes rest
+rest_after_left p none = record {
   stands = record { text = p.stands.text; is = inl p.stands.is; splits = p.stands.splits };
   only = λ other it. elim (either_split it) [
     | inl is ↦ p.only other is
@@ -273,9 +286,9 @@ either_left p none = record {
   ];
 }
 
-pub either_right : {P Q : List ℕ → Type 0} {S : ℕ → Type 0} {bytes rest : List ℕ}
-    → NoneStands P bytes → RestAfter Q S bytes rest → RestAfter (Either P Q) S bytes rest
-either_right none q = record {
+pub rest_after_right : {P Q : List ℕ → Type 0} {S : ℕ → Type 0} {bytes rest : List ℕ}
+    → NoMatchAtStart P bytes → RestAfter Q S bytes rest → RestAfter (Either P Q) S bytes rest
+rest_after_right none q = record {
   stands = record { text = q.stands.text; is = inr q.stands.is; splits = q.stands.splits };
   only = λ other it. elim (either_split it) [
     | inl is ↦ absurd (none other is)
@@ -283,9 +296,9 @@ either_right none q = record {
   ];
 }
 
-pub either_none : {P Q : List ℕ → Type 0} {bytes : List ℕ} → NoneStands P bytes
-    → NoneStands Q bytes → NoneStands (Either P Q) bytes
-either_none p q rest it = elim (either_split it) [ inl is ↦ p rest is | inr is ↦ q rest is ]
+pub no_match_of_either : {P Q : List ℕ → Type 0} {bytes : List ℕ} → NoMatchAtStart P bytes
+    → NoMatchAtStart Q bytes → NoMatchAtStart (Either P Q) bytes
+no_match_of_either p q rest it = elim (either_split it) [ inl is ↦ p rest is | inr is ↦ q rest is ]
 
 -- ---- one or nothing
 
@@ -296,13 +309,14 @@ maybe_split {rest = rest} it = elim it.is [
   | inr is ↦ inr (record { text = it.text; is = is; splits = it.splits })
 ]
 
-pub maybe_some : {P : List ℕ → Type 0} {S F : ℕ → Type 0} {bytes rest : List ℕ} → Starts P F
-    → RestAfter P S bytes rest → RestAfter (Maybe P) (Or S F) bytes rest
-maybe_some {rest = rest} starts p = record {
+pub rest_after_some : {P : List ℕ → Type 0} {S F : ℕ → Type 0} {bytes rest : List ℕ}
+    → AllStartWith P F
+    → RestAfter P S bytes rest → RestAfter (Maybe P) (EitherByte S F) bytes rest
+rest_after_some {rest = rest} starts p = record {
   stands = record { text = p.stands.text; is = inr p.stands.is; splits = p.stands.splits };
   only = λ other it. elim (maybe_split it) [
     | inl same ↦
-        let c = begins_at starts p.stands in
+        let c = first_byte_of_match starts p.stands in
         inr (record {
           byte = c.byte;
           tail = c.more;
@@ -314,9 +328,10 @@ maybe_some {rest = rest} starts p = record {
   ];
 }
 
-pub maybe_none : {P : List ℕ → Type 0} {S : ℕ → Type 0} {bytes : List ℕ} → NoneStands P bytes
+pub rest_after_none : {P : List ℕ → Type 0} {S : ℕ → Type 0} {bytes : List ℕ}
+    → NoMatchAtStart P bytes
     → RestAfter (Maybe P) S bytes bytes
-maybe_none none = record {
+rest_after_none none = record {
   stands = record { text = []; is = inl refl; splits = refl };
   only = λ other it. elim (maybe_split it) [
     | inl same ↦ inl (sym same)
@@ -324,7 +339,8 @@ maybe_none none = record {
   ];
 }
 
-pub maybe_stays : {P : List ℕ → Type 0} {S : ℕ → Type 0} → Bars P S → Stays (Maybe P) S
+pub maybe_stays : {P : List ℕ → Type 0} {S : ℕ → Type 0} → NeverStartsWith P S
+    → ContinuedOnlyBy (Maybe P) S
 maybe_stays bars bytes rest b more e s it = elim (maybe_split it) [
   | inl same ↦ sym same
   | inr is ↦ absurd (bars bytes rest b more e s is)
@@ -332,18 +348,18 @@ maybe_stays bars bytes rest b more e s it = elim (maybe_split it) [
 
 -- ---- any number of bytes
 
-pub all_stays : {P S : ℕ → Type 0} → Apart P S → Stays (All P) S
+pub all_stays : {P S : ℕ → Type 0} → AreDisjoint P S → ContinuedOnlyBy (All P) S
 all_stays {P} {S} apart bytes rest b more e s it = stays it.text it.is it.splits
   where
     stays : (text : List ℕ) → All P text → bytes ≡ text ++ rest → rest ≡ bytes
     stays [] all splits = sym splits
     stays (c ∷ text) all splits =
-        absurd (apart c (All-head P c text all) (subst S (same_first (sym e ∙ splits)) s))
+        absurd (apart c (All-head P c text all) (subst S (heads_equal (sym e ∙ splits)) s))
 
-pub all_leaves : {P : ℕ → Type 0} (text : List ℕ) {bytes rest : List ℕ} → All P text
+pub rest_after_all : {P : ℕ → Type 0} (text : List ℕ) {bytes rest : List ℕ} → All P text
     → bytes ≡ text ++ rest → ((b : ℕ) (more : List ℕ) → rest ≡ b ∷ more → P b → ⊥)
     → RestAfter (All P) P bytes rest
-all_leaves {P} text {bytes} {rest} all splits stops = record {
+rest_after_all {P} text {bytes} {rest} all splits stops = record {
   stands = record { text = text; is = all; splits = splits };
   only = λ other it. same text it.text other all it.is (sym splits ∙ it.splits);
 }
@@ -360,7 +376,7 @@ all_leaves {P} text {bytes} {rest} all splits stops = record {
       is_more = omega (arith, ap (λ l. length l) e, length-append xs rest);
     })
     same (x ∷ xs) (y ∷ ys) other p q e =
-        same xs ys other (All-tail P x xs p) (All-tail P y ys q) (same_rest e)
+        same xs ys other (All-tail P x xs p) (All-tail P y ys q) (tails_equal e)
 
 pub all_stops : {P : ℕ → Type 0} {bytes rest : List ℕ} → RestAfter (All P) P bytes rest → (b : ℕ)
     (more : List ℕ) → rest ≡ b ∷ more → P b → ⊥
@@ -375,7 +391,7 @@ all_stops {P} it b more e is =
       | inr goes ↦ omega (arith, goes.is_more, ap (λ l. length l) e)
     ]
 
-pub widen : {P : List ℕ → Type 0} {S T : ℕ → Type 0} {bytes rest : List ℕ}
+pub rest_after_wider : {P : List ℕ → Type 0} {S T : ℕ → Type 0} {bytes rest : List ℕ}
     → ((b : ℕ) → S b → T b) → RestAfter P S bytes rest → RestAfter P T bytes rest
-widen wider p =
+rest_after_wider wider p =
     record { stands = p.stands; only = λ other it. grown wider (p.only other it) }

@@ -5,12 +5,12 @@ use Rattle.std.proofs.lemmas.List.{append-nil, append_cancel_left}
 use Rattle.std.proofs.lemmas.Bool.{true≢false}
 use Rattle.std.specs.Char.{encode_utf8}
 use Rattle.std.specs.List.{All}
-use Rattle.format_json_extents.proofs.Scanning.{from_left}
-use Rattle.format_json_extents.proofs.Matching.{same_first}
+use Rattle.format_json_extents.proofs.Scanning.{take_prefix_by_rest}
+use Rattle.format_json_extents.proofs.Matching.{heads_equal}
 use Rattle.format_json_extents.proofs.Unescaping.{means_end, means_run}
-use Rattle.format_json_extents.specs.Names.{IsTailCompared, IsWhole, Remains, said}
+use Rattle.format_json_extents.specs.Names.{IsEqualIf, IsTailCompared, Remains, name_text}
 use Rattle.format_json_extents.specs.Strings.{IsEscape, IsUnescaped}
-use Rattle.format_json_extents.specs.Texts.{Never, RestAfter}
+use Rattle.format_json_extents.specs.Texts.{NoByte, RestAfter}
 use Rattle.format_json_extents.specs.Unescaped.{Means, means_nothing}
 use Rattle.format_json_texts.specs.Strings.{EscapeText}
 
@@ -20,7 +20,7 @@ use Rattle.format_json_texts.specs.Strings.{EscapeText}
 pub record Passed (token : Bool) (name text left wanted : List ℕ) : Type 0 where
   pub passed : List ℕ
   pub splits : text ≡ passed ++ wanted
-  pub said_so : said token name ≡ passed ++ said token left
+  pub said_so : name_text token name ≡ passed ++ name_text token left
 
 pub passed_nothing : (token : Bool) (name text : List ℕ) → Passed token name text name text
 passed_nothing token name text = record { passed = []; splits = refl; said_so = refl }
@@ -28,7 +28,7 @@ passed_nothing token name text = record { passed = []; splits = refl; said_so = 
 module _ {token : Bool} {name text left wanted : List ℕ}
     (it : Passed token name text left wanted) where
   pub passed_more : {more others : List ℕ} {b c : ℕ} → wanted ≡ b ∷ others
-      → said token left ≡ c ∷ said token more → c ≡ b → Passed token name text more others
+      → name_text token left ≡ c ∷ name_text token more → c ≡ b → Passed token name text more others
   passed_more {more} {others} {b} e f same = record {
     passed = it.passed ++ b ∷ [];
     splits = simp (it.splits, e, append_assoc);
@@ -37,27 +37,27 @@ module _ {token : Bool} {name text left wanted : List ℕ}
 
   module _ {same : Bool} {whole meant : List ℕ} (is : same ≡ true)
       (from : Remains token whole meant same name) (rest : List ℕ) where
-    strip_none : ((more : List ℕ) → said token left ≡ wanted ++ more → ⊥)
+    strip_none : ((more : List ℕ) → name_text token left ≡ wanted ++ more → ⊥)
         → Remains token whole (meant ++ text) false rest
     strip_none none = record {
       yes = λ e. absurd (true≢false (sym e));
       no = λ e more f.
-          none more (append_cancel_left it.passed (said token left) (wanted ++ more)
+          none more (append_cancel_left it.passed (name_text token left) (wanted ++ more)
           (sym it.said_so
-          ∙ append_cancel_left meant (said token name) (text ++ more)
+          ∙ append_cancel_left meant (name_text token name) (text ++ more)
           (sym (from.yes is) ∙ f ∙ append_assoc meant text more)
           ∙ ap (λ l. l ++ more) it.splits ∙ append_assoc it.passed wanted more));
     }
 
     -- another byte follows
     pub strip_other : (more : List ℕ) {others : List ℕ} {b c : ℕ} → wanted ≡ b ∷ others
-        → said token left ≡ c ∷ said token more → (c ≡ b → ⊥)
+        → name_text token left ≡ c ∷ name_text token more → (c ≡ b → ⊥)
         → Remains token whole (meant ++ text) false rest
     strip_other more e f not =
-        strip_none (λ tail g. not (same_first (sym f ∙ g ∙ ap (λ l. l ++ tail) e)))
+        strip_none (λ tail g. not (heads_equal (sym f ∙ g ∙ ap (λ l. l ++ tail) e)))
 
     -- or none does
-    pub strip_ends : {others : List ℕ} {b : ℕ} → wanted ≡ b ∷ others → said token left ≡ []
+    pub strip_ends : {others : List ℕ} {b : ℕ} → wanted ≡ b ∷ others → name_text token left ≡ []
         → Remains token whole (meant ++ text) false rest
     strip_ends e f =
         strip_none (λ tail g. omega (
@@ -66,18 +66,19 @@ module _ {token : Bool} {name text left wanted : List ℕ}
         ))
 
 pub all_passed : (token : Bool) (name text left wanted whole meant : List ℕ)
-    → Passed token name text left wanted → whole ≡ meant ++ said token name → wanted ≡ []
-    → whole ≡ (meant ++ text) ++ said token left
+    → Passed token name text left wanted → whole ≡ meant ++ name_text token name → wanted ≡ []
+    → whole ≡ (meant ++ text) ++ name_text token left
 all_passed token name text left wanted whole meant it from e =
-    from ∙ ap (λ l. meant ++ l) it.said_so ∙ sym (append_assoc meant it.passed (said token left))
-    ∙ ap (λ l. (meant ++ l) ++ said token left)
+    from ∙ ap (λ l. meant ++ l) it.said_so
+    ∙ sym (append_assoc meant it.passed (name_text token left))
+    ∙ ap (λ l. (meant ++ l) ++ name_text token left)
     (sym (it.splits ∙ ap (λ l. it.passed ++ l) e ∙ append-nil it.passed))
 
 -- ---- at the end of the text
 
 module _ {token same : Bool} {left whole meant : List ℕ}
     (from : Remains token whole meant same left) where
-  pub is_over : said token left ≡ [] → same ≡ true → meant ≡ whole
+  pub is_over : name_text token left ≡ [] → same ≡ true → meant ≡ whole
   is_over e is = sym (from.yes is ∙ ap (λ l. meant ++ l) e ∙ append-nil meant)
 
   pub not_same : same ≡ false → meant ≡ whole → ⊥
@@ -85,13 +86,13 @@ module _ {token same : Bool} {left whole meant : List ℕ}
 
 -- more of the name follows
 pub not_over : (token same : Bool) {left whole meant rest : List ℕ} {b : ℕ}
-    → said token left ≡ b ∷ rest → Remains token whole meant same left → meant ≡ whole → ⊥
+    → name_text token left ≡ b ∷ rest → Remains token whole meant same left → meant ≡ whole → ⊥
 not_over token true {left} {meant = meant} e from is =
     omega (
       arith,
       ap (λ l. length l) is,
       ap (λ l. length l) (from.yes refl),
-      length-append meant (said token left),
+      length-append meant (name_text token left),
       ap (λ l. length l) e,
     )
 not_over token false e from is = not_same from refl is
@@ -108,7 +109,7 @@ pub record Compared (token : Bool) (whole bytes rest : List ℕ) (same : Bool) (
   pub remains : Remains token whole meant same left
 
 pub compared_nothing : (token : Bool) (name bytes : List ℕ)
-    → Compared token (said token name) bytes bytes true name
+    → Compared token (name_text token name) bytes bytes true name
 compared_nothing token name bytes = record {
   text = [];
   meant = [];
@@ -129,7 +130,7 @@ pub compared_run : {token : Bool} {whole bytes rest ahead run left after : List 
     → run ≡ take (length rest - length ahead) rest → Strips token same left run now after
     → Compared token whole bytes ahead now after
 compared_run {whole = whole} {ahead = ahead} {run = run} it leaves is strips =
-    let e = is ∙ from_left leaves.stands.text ahead leaves.stands.splits in
+    let e = is ∙ take_prefix_by_rest leaves.stands.text ahead leaves.stands.splits in
     record {
       text = it.text ++ run;
       meant = it.meant ++ run;
@@ -140,14 +141,14 @@ compared_run {whole = whole} {ahead = ahead} {run = run} it leaves is strips =
 
 pub compared_escape : {token : Bool} {whole bytes ahead escape next between left after : List ℕ}
     {same now : Bool} → Compared token whole bytes ahead same left → ahead ≡ 92 ∷ escape
-    → RestAfter IsEscape Never escape next
+    → RestAfter IsEscape NoByte escape next
     → between ≡ take (length escape - length next) escape
     → (char : ℕ) × EscapeText char (92 ∷ between)
     × Strips token same left (encode_utf8 char) now after
     → Compared token whole bytes next now after
 compared_escape {whole = whole} {next = next} {between = between} it e leaves is
     (char, text, strips) =
-    let f = is ∙ from_left leaves.stands.text next leaves.stands.splits in
+    let f = is ∙ take_prefix_by_rest leaves.stands.text next leaves.stands.splits in
     record {
       text = it.text ++ 92 ∷ between;
       meant = it.meant ++ encode_utf8 char;
@@ -158,7 +159,7 @@ compared_escape {whole = whole} {next = next} {between = between} it e leaves is
 
 pub tail_compared : {token : Bool} {whole bytes ahead end left : List ℕ} {same is : Bool}
     → Compared token whole bytes ahead same left → ahead ≡ 34 ∷ end
-    → ((w meant : List ℕ) → Remains token w meant same left → IsWhole is w meant)
+    → ((w meant : List ℕ) → Remains token w meant same left → IsEqualIf is w meant)
     → IsTailCompared is whole bytes end
 tail_compared {whole = whole} it e over = record {
   text = it.text;

@@ -5,13 +5,15 @@ use Rattle.std.proofs.Common.{sym, true}
 use Rattle.format_json_extents.proofs.Matching.{start_less}
 use Rattle.format_json_extents.proofs.Scalars.{scalar_starts}
 use Rattle.format_json_extents.specs.Strings.{IsString}
-use Rattle.format_json_extents.specs.Texts.{Never, RestAfter}
-use Rattle.format_json_extents.specs.Value.{IsGap, IsNumberByteOf, IsScalar, IsSpace}
+use Rattle.format_json_extents.specs.Texts.{NoByte, RestAfter}
+use Rattle.format_json_extents.specs.Value.{ExtendsNumberOf, IsScalar, IsWhitespace}
+use Rattle.format_json_extents.specs.Value.{IsWhitespaceByte}
 use Rattle.format_json_extents.proofs.NodeOverlay.{overlay_then, set_overlay}
 use Rattle.format_json_extents.specs.Nodes.{ElementNodes, IsScalarOf, ItemNodes, NodesAt}
 use Rattle.format_json_extents.specs.Nodes.{ScalarNodes}
 use Rattle.format_json_extents.specs.Nodes.{node}
-use Rattle.format_json_extents.specs.NodeWriting.{Writes, WritesKey, WritesName, at, overlay}
+use Rattle.format_json_extents.specs.NodeWriting.{WritesKey, WritesName, WritesNodes}
+use Rattle.format_json_extents.specs.NodeWriting.{offset_of_rest, overlay}
 use Rattle.format_json_extents.specs.declared.node.JsonNode.{JsonNode}
 
 -- the length of two texts
@@ -21,13 +23,13 @@ long front rest e = ap (λ l. length l) e ∙ length-append front rest
 
 -- the offset after a text
 at_rest : (size : ℕ) {bytes : List ℕ} (front rest : List ℕ) → length bytes ≤ size
-    → bytes ≡ front ++ rest → at size rest ≡ at size bytes + length front
+    → bytes ≡ front ++ rest → offset_of_rest size rest ≡ offset_of_rest size bytes + length front
 at_rest size front rest few e = omega (arith, few, long front rest e)
 
 -- a node as it is made, with the offset after its text
 pub ends_at : (size kind start next : ℕ) {bytes : List ℕ} (text rest : List ℕ)
-    → length bytes ≤ size → bytes ≡ text ++ rest → start ≡ at size bytes
-    → record { kind = kind; start = start; end = at size rest; next = next }
+    → length bytes ≤ size → bytes ≡ text ++ rest → start ≡ offset_of_rest size bytes
+    → record { kind = kind; start = start; end = offset_of_rest size rest; next = next }
     ≡ node kind start text next
 ends_at size kind start next text rest few e is =
     ap (λ n. record { kind = kind; start = start; end = n; next = next })
@@ -38,19 +40,19 @@ ends_at size kind start next text rest few e is =
 module _ (size index : ℕ) {bytes rest : List ℕ} (few : index + length bytes ≤ size) where
   pub scalar_writes : (kind : ℕ) {old new : List JsonNode}
       → ((text more : List ℕ) → IsScalar text → bytes ≡ text ++ more → IsScalarOf kind text)
-      → RestAfter IsScalar (IsNumberByteOf bytes) bytes rest
+      → RestAfter IsScalar (ExtendsNumberOf bytes) bytes rest
       → new ≡ set old index (record {
         kind = kind;
         start = size - length bytes;
         end = size - length rest;
         next = index + 1;
       })
-      → Writes ScalarNodes size index bytes rest (index + 1) old new
+      → WritesNodes ScalarNodes size index bytes rest (index + 1) old new
   scalar_writes kind {old} of it is =
       let text = it.stands.text in
       let splits = it.stands.splits in
       record {
-        nodes = node kind (at size bytes) text (index + 1) ∷ [];
+        nodes = node kind (offset_of_rest size bytes) text (index + 1) ∷ [];
         text = text;
         are_nodes = record {
           kind = kind;
@@ -61,14 +63,15 @@ module _ (size index : ℕ) {bytes rest : List ℕ} (few : index + length bytes 
         counts = refl;
         few = omega (arith, start_less scalar_starts it.stands, long text rest splits);
         written = is
-            ∙ ap (λ n. set old index n) (ends_at size kind (at size bytes) (index + 1) text rest
+            ∙ ap (λ n. set old index n)
+            (ends_at size kind (offset_of_rest size bytes) (index + 1) text rest
             (omega (arith, few)) splits refl)
-            ∙ set_overlay index (node kind (at size bytes) text (index + 1)) old;
+            ∙ set_overlay index (node kind (offset_of_rest size bytes) text (index + 1)) old;
       }
 
   pub name_writes : {start end after : List ℕ} {old new : List JsonNode}
-      → RestAfter IsGap IsSpace bytes start → RestAfter IsString Never start end
-      → RestAfter IsGap IsSpace end after → after ≡ 58 ∷ rest
+      → RestAfter IsWhitespace IsWhitespaceByte bytes start → RestAfter IsString NoByte start end
+      → RestAfter IsWhitespace IsWhitespaceByte end after → after ≡ 58 ∷ rest
       → new ≡ set old index (record {
         kind = 7;
         start = size - length start;
@@ -92,7 +95,8 @@ module _ (size index : ℕ) {bytes rest : List ℕ} (few : index + length bytes 
         splits = simp (all, name.stands.splits, space.stands.splits, colon, append_assoc);
         counts = refl;
         written = is
-            ∙ ap (λ n. set old index n) (ends_at size 7 (at size start) (index + 1) text end
+            ∙ ap (λ n. set old index n)
+            (ends_at size 7 (offset_of_rest size start) (index + 1) text end
             (omega (arith, few, long front start all)) name.stands.splits refl
             ∙ ap (λ n. node 7 n text (index + 1)) from);
       }
@@ -101,9 +105,10 @@ module _ (size index : ℕ) {bytes rest : List ℕ} (few : index + length bytes 
 
 module _ (V : NodesAt) (size index : ℕ) {bytes rest : List ℕ} (few : length bytes ≤ size) where
   pub element_writes : {start end : List ℕ} {next : ℕ} {old new : List JsonNode}
-      → RestAfter IsGap IsSpace bytes start → Writes V size index start end next old new
-      → RestAfter IsGap IsSpace end rest
-      → Writes (ElementNodes V) size index bytes rest next old new
+      → RestAfter IsWhitespace IsWhitespaceByte bytes start
+      → WritesNodes V size index start end next old new
+      → RestAfter IsWhitespace IsWhitespaceByte end rest
+      → WritesNodes (ElementNodes V) size index bytes rest next old new
   element_writes {start} {end} gap it space =
       let front = gap.stands.text in
       let behind = space.stands.text in
@@ -134,13 +139,15 @@ module _ (V : NodesAt) (size index : ℕ) {bytes rest : List ℕ} (few : length 
 
   pub item_writes : (keyed : Bool) {named : List ℕ} {first next : ℕ} {old mid new : List JsonNode}
       → WritesKey keyed size index bytes named first old mid
-      → Writes (ElementNodes V) size first named rest next mid new
-      → Writes (ItemNodes keyed V) size index bytes rest next old new
+      → WritesNodes (ElementNodes V) size first named rest next mid new
+      → WritesNodes (ItemNodes keyed V) size index bytes rest next old new
   item_writes false {named} {old = old} {mid} (here, same, still) it = record {
     nodes = it.nodes;
     text = it.text;
-    are_nodes = subst (λ n. ElementNodes V n index it.nodes it.text) (ap (λ l. at size l) here)
-        (subst (λ n. ElementNodes V (at size named) n it.nodes it.text) same it.are_nodes);
+    are_nodes = subst (λ n. ElementNodes V n index it.nodes it.text)
+        (ap (λ l. offset_of_rest size l) here)
+        (subst (λ n. ElementNodes V (offset_of_rest size named) n it.nodes it.text) same
+        it.are_nodes);
     splits = sym here ∙ it.splits;
     counts = it.counts ∙ ap (λ n. n + length it.nodes) same;
     few = it.few;
@@ -149,7 +156,7 @@ module _ (V : NodesAt) (size index : ℕ) {bytes rest : List ℕ} (few : length 
   }
   item_writes true {named} {first} {old = old} {mid} key it =
       let front = key.before ++ (key.name ++ key.after) in
-      let it_is = node 7 (at size bytes + length key.before) key.name (index + 1) in
+      let it_is = node 7 (offset_of_rest size bytes + length key.before) key.name (index + 1) in
       record {
         nodes = it_is ∷ it.nodes;
         text = front ++ 58 ∷ it.text;
@@ -164,7 +171,7 @@ module _ (V : NodesAt) (size index : ℕ) {bytes rest : List ℕ} (few : length 
           is_after = key.is_after;
           is_element = subst (λ n. ElementNodes V n (index + 1) it.nodes it.text)
               (omega (arith, few, long front (58 ∷ named) key.splits))
-              (subst (λ n. ElementNodes V (at size named) n it.nodes it.text) key.counts
+              (subst (λ n. ElementNodes V (offset_of_rest size named) n it.nodes it.text) key.counts
               it.are_nodes);
           joins = refl;
           in_order = refl;
@@ -189,9 +196,10 @@ key_less false size index bytes named first old new (here, same, still) =
 pub item_written : (keyed : Bool) (V : NodesAt) (size index : ℕ)
     {bytes named start item ahead : List ℕ} {first next : ℕ} {old mid new : List JsonNode}
     → length bytes ≤ size → WritesKey keyed size index bytes named first old mid
-    → RestAfter IsGap IsSpace named start → Writes V size first start item next mid new
-    → RestAfter IsGap IsSpace item ahead
-    → Writes (ItemNodes keyed V) size index bytes ahead next old new
+    → RestAfter IsWhitespace IsWhitespaceByte named start
+    → WritesNodes V size first start item next mid new
+    → RestAfter IsWhitespace IsWhitespaceByte item ahead
+    → WritesNodes (ItemNodes keyed V) size index bytes ahead next old new
 item_written keyed V size index {bytes} {named} {first = first} {old = old} {mid} few key gap it
     space =
     let less = key_less keyed size index bytes named first old mid key in

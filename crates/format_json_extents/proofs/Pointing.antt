@@ -5,8 +5,8 @@ use Rattle.std.proofs.Common.{subst, suc, sym, take, true}
 use Rattle.std.specs.List.{All}
 use Rattle.std.proofs.lemmas.Bool.{eq-eqb, true≢false}
 use Rattle.std.proofs.lemmas.List.{append-nil, nil_from_length}
-use Rattle.format_json_extents.proofs.Matching.{same_rest}
-use Rattle.format_json_extents.proofs.Scanning.{from_left}
+use Rattle.format_json_extents.proofs.Matching.{tails_equal}
+use Rattle.format_json_extents.proofs.Scanning.{take_prefix_by_rest}
 use Rattle.format_json_extents.proofs.Values.{IsItemByte}
 use Rattle.format_json_extents.specs.Number.{IsNumber}
 use Rattle.format_json_extents.specs.Pointer.{HasItem, IsChild, IsContainer, IsFoundItem, IsPointer}
@@ -15,7 +15,8 @@ use Rattle.format_json_extents.specs.Pointer.{LacksChild, LacksItem, PassesItems
 use Rattle.format_json_extents.specs.Pointer.{passes_item, passes_nothing, reaches_child}
 use Rattle.format_json_extents.specs.Pointer.{reaches_root}
 use Rattle.format_json_extents.specs.Texts.{IsLongest, MatchesAtStart, RestAfter}
-use Rattle.format_json_extents.specs.Value.{IsGap, IsItem, IsName, IsNumberByteOf, IsValue, closing}
+use Rattle.format_json_extents.specs.Value.{ExtendsNumberOf, IsItem, IsName, IsValue, IsWhitespace}
+use Rattle.format_json_extents.specs.Value.{closing_bracket}
 use Rattle.format_json_extents.specs.declared.pointer.Lookup.{Lookup}
 use Rattle.format_json_extents.specs.declared.pointer.Lookup.TheVariants as lookup
 
@@ -28,16 +29,16 @@ pointer_rooted (b ∷ more) is = is.0
 pub rooted_first : (tokens : List ℕ) {b : ℕ} {more : List ℕ} → IsRooted tokens → tokens ≡ b ∷ more
     → tokens ≡ 47 ∷ more
 rooted_first [] is e = absurd (omega (arith, ap (λ l. length l) e))
-rooted_first (c ∷ others) is e = ap (λ l. l ∷ others) is ∙ ap (λ l. 47 ∷ l) (same_rest e)
+rooted_first (c ∷ others) is e = ap (λ l. l ∷ others) is ∙ ap (λ l. 47 ∷ l) (tails_equal e)
 
 -- a value that the pointer reaches is one
 pub reached : {level : ℕ} {text pointer : List ℕ} {depth : ℕ} {here rest tokens : List ℕ}
     → Reaches level text pointer depth here rest tokens
-    → RestAfter (IsValue depth) (IsNumberByteOf here) here rest
+    → RestAfter (IsValue depth) (ExtendsNumberOf here) here rest
 reached (reaches_root here rest gap is) = is
 reached (reaches_child depth here rest more token after start end so is child) =
     let (keyed, inner, index, inside, container, item) = child in
-    subst (λ n. RestAfter (IsValue n) (IsNumberByteOf start) start end)
+    subst (λ n. RestAfter (IsValue n) (ExtendsNumberOf start) start end)
     (sym (suc_same container.is_deep)) item.is_value
   where
     suc_same : {m n : ℕ} → suc m ≡ suc n → m ≡ n
@@ -60,7 +61,7 @@ rooted_none rest e = subst IsRooted (sym (nil_from_length rest e)) tt
 pub token_taken : {more after : List ℕ} → IsToken more after
     → IsTokenOf (take (length more - length after) more) more after
 token_taken {more} {after} (token, is) =
-    subst (λ l. IsTokenOf l more after) (sym (from_left token after is.splits)) is
+    subst (λ l. IsTokenOf l more after) (sym (take_prefix_by_rest token after is.splits)) is
 
 -- ---- items
 
@@ -78,7 +79,8 @@ module _ {keyed : Bool} {level : ℕ} {index : Option ℕ} {token inside at : Li
 
   pub lacks_item : {same : Bool} {ahead rest : List ℕ} → same ≡ false
       → IsSought keyed same left token at
-      → RestAfter (IsItem keyed (IsValue level)) IsItemByte at ahead → ahead ≡ closing keyed ∷ rest
+      → RestAfter (IsItem keyed (IsValue level)) IsItemByte at ahead
+      → ahead ≡ closing_bracket keyed ∷ rest
       → LacksItem keyed level index token inside
   lacks_item {rest = rest} other sought item e = inr (
     at,
@@ -91,8 +93,8 @@ module _ {keyed : Bool} {level : ℕ} {index : Option ℕ} {token inside at : Li
 
   pub has_item : {same : Bool} {named start rest : List ℕ} → same ≡ true
       → IsSought keyed same left token at → MatchesAtStart (IsName keyed) at named
-      → MatchesAtStart IsGap named start
-      → RestAfter (IsValue level) (IsNumberByteOf start) start rest
+      → MatchesAtStart IsWhitespace named start
+      → RestAfter (IsValue level) (ExtendsNumberOf start) start rest
       → HasItem keyed level index token inside start rest
   has_item {named = named} is sought name gap value = record {
     at = at;

@@ -9,18 +9,18 @@ use Rattle.std.proofs.lemmas.Simd.{bitmask_splat, chunk-drop, map-map, tops_comp
 use Rattle.std.proofs.lemmas.Simd.{trailing_mask_l, zip2_splat}
 use Rattle.std.proofs.Math.Seq.{drop-append_seam}
 use Rattle.std.specs.List.{All, prefix_len}
-use Rattle.format_json_extents.proofs.Matching.{all_leaves, all_stops, same_first}
+use Rattle.format_json_extents.proofs.Matching.{all_stops, heads_equal, rest_after_all}
 use Rattle.format_json_extents.specs.Strings.{IsUnescaped}
 use Rattle.format_json_extents.specs.Texts.{EndsAt, MatchesAtStart, RestAfter}
-use Rattle.format_json_extents.specs.Value.{IsSpace}
+use Rattle.format_json_extents.specs.Value.{IsWhitespaceByte}
 use lib.Count.{count_trailing_zeros}
 use lib.Lanes.{chunk, mask_l, sel_l, top, zip2}
 
 -- ---- from one position to a later one
 
 module _ (P : ℕ → Type 0) {bytes : List ℕ} where
-  pub run_here : MatchesAtStart (All P) bytes bytes
-  run_here = record { text = []; is = All-nil P; splits = refl }
+  pub empty_run_matches : MatchesAtStart (All P) bytes bytes
+  empty_run_matches = record { text = []; is = All-nil P; splits = refl }
 
   pub run_on : {rest more : List ℕ} (front : List ℕ) → MatchesAtStart (All P) bytes rest
       → rest ≡ front ++ more → All P front → MatchesAtStart (All P) bytes more
@@ -30,21 +30,23 @@ module _ (P : ℕ → Type 0) {bytes : List ℕ} where
     splits = it.splits ∙ ap (λ l. it.text ++ l) e ∙ sym (append_assoc it.text front more);
   }
 
-  pub run_one : {rest : List ℕ} {b : ℕ} {more : List ℕ} → MatchesAtStart (All P) bytes rest
+  pub run_extends_by_one : {rest : List ℕ} {b : ℕ} {more : List ℕ}
+      → MatchesAtStart (All P) bytes rest
       → rest ≡ b ∷ more → P b → MatchesAtStart (All P) bytes more
-  run_one {b = b} it e is = run_on (b ∷ []) it e (All-cons P b [] is (All-nil P))
+  run_extends_by_one {b = b} it e is = run_on (b ∷ []) it e (All-cons P b [] is (All-nil P))
 
 module _ {P : ℕ → Type 0} {bytes : List ℕ} where
-  pub run_stops : {rest : List ℕ} {b : ℕ} {more : List ℕ} → MatchesAtStart (All P) bytes rest
+  pub run_ends_before_other : {rest : List ℕ} {b : ℕ} {more : List ℕ}
+      → MatchesAtStart (All P) bytes rest
       → rest ≡ b ∷ more → (P b → ⊥) → RestAfter (All P) P bytes rest
-  run_stops it e not =
-      all_leaves it.text it.is it.splits
-      (λ c tail begins is. not (subst P (same_first (sym begins ∙ e)) is))
+  run_ends_before_other it e not =
+      rest_after_all it.text it.is it.splits
+      (λ c tail begins is. not (subst P (heads_equal (sym begins ∙ e)) is))
 
-  pub run_ends : {rest : List ℕ} → MatchesAtStart (All P) bytes rest → length rest ≡ 0
+  pub run_ends_with_bytes : {rest : List ℕ} → MatchesAtStart (All P) bytes rest → length rest ≡ 0
       → RestAfter (All P) P bytes rest
-  run_ends it e =
-      all_leaves it.text it.is it.splits
+  run_ends_with_bytes it e =
+      rest_after_all it.text it.is it.splits
       (λ c tail begins is. omega (arith, e, ap (λ l. length l) begins))
 
   -- after one more byte
@@ -52,7 +54,7 @@ module _ {P : ℕ → Type 0} {bytes : List ℕ} where
       → RestAfter (All P) P more rest → RestAfter (All P) P bytes rest
   run_after {b = b} e is it =
       let text = it.stands.text in
-      all_leaves (b ∷ text) (All-cons P b text is it.stands.is)
+      rest_after_all (b ∷ text) (All-cons P b text is it.stands.is)
       (e ∙ ap (λ l. b ∷ l) it.stands.splits) (all_stops it)
 
 -- ---- where the lanes of one load are the first bytes
@@ -68,7 +70,7 @@ lanes_stop P {rest = rest} count it (front, other, tail, e, long, all, not) =
     let left : drop count rest ≡ more =
     ap (λ n. drop n rest) (sym long) ∙ ap (drop (length front)) whole
     ∙ drop-append_seam front more in
-    run_stops (run_on P front it (whole ∙ ap (λ l. front ++ l) (sym left)) all) left not
+    run_ends_before_other (run_on P front it (whole ∙ ap (λ l. front ++ l) (sym left)) all) left not
 
 pub lanes_go_on : (P : ℕ → Type 0) {bytes rest : List ℕ} → MatchesAtStart (All P) bytes rest
     → All P (chunk 0 16 rest) → MatchesAtStart (All P) bytes (drop 16 rest)
@@ -212,7 +214,7 @@ spaced x = cond (eqb x 13) 32 (no_line x)
 abbrev pub is_end : ℕ → Bool
 is_end x = not (eqb (spaced x) 32)
 
-pub tells_ends : Refuses is_end IsSpace
+pub tells_ends : Refuses is_end IsWhitespaceByte
 tells_ends = record {
   no = λ x is p. grind (arith, nat_tests);
   yes = λ x is. grind (arith, nat_tests);

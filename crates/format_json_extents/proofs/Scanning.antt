@@ -6,15 +6,16 @@ use Rattle.std.proofs.Common.{take_at}
 use Rattle.std.specs.Borrow.{Bor}
 use Rattle.std.proofs.lemmas.Bool.{eq-eqb, eqb-true, true≢false}
 use Rattle.std.proofs.lemmas.List.{append-nil, nil_from_length}
-use Rattle.format_json_extents.proofs.Matching.{Bars, byte_leaves, either_left, either_none}
-use Rattle.format_json_extents.proofs.Matching.{either_right, same_first, then_exact, then_none}
-use Rattle.format_json_extents.proofs.Matching.{this_none, widen}
+use Rattle.format_json_extents.proofs.Matching.{NeverStartsWith, heads_equal, no_given_byte}
+use Rattle.format_json_extents.proofs.Matching.{no_match_of_either, no_match_of_second}
+use Rattle.format_json_extents.proofs.Matching.{rest_after_byte, rest_after_left, rest_after_right}
+use Rattle.format_json_extents.proofs.Matching.{rest_after_then, rest_after_wider}
 use Rattle.format_json_extents.specs.Texts.{Either, IsByte, IsLongerRest, IsLongest, MatchesAtStart}
-use Rattle.format_json_extents.specs.Texts.{Never, NoneStands, RestAfter, Then}
+use Rattle.format_json_extents.specs.Texts.{NoByte, NoMatchAtStart, RestAfter, Then}
 
 -- ---- the rest
 
-pub alone : {P : List ℕ → Type 0} {bytes rest other : List ℕ} → RestAfter P Never bytes rest
+pub alone : {P : List ℕ → Type 0} {bytes rest other : List ℕ} → RestAfter P NoByte bytes rest
     → MatchesAtStart P bytes other → other ≡ rest
 alone {other = other} p it =
     elim (p.only other it) [ inl same ↦ same | inr goes ↦ absurd goes.is_byte ]
@@ -25,13 +26,13 @@ pub ended : {P : List ℕ → Type 0} {S : ℕ → Type 0} {bytes rest other : L
     → MatchesAtStart P bytes other → other ≡ rest
 ended {S = S} {other = other} b more e not p it = elim (p.only other it) [
   | inl same ↦ same
-  | inr goes ↦ absurd (not (subst S (same_first (sym goes.begins ∙ e)) goes.is_byte))
+  | inr goes ↦ absurd (not (subst S (heads_equal (sym goes.begins ∙ e)) goes.is_byte))
 ]
 
 -- there is one longest
-pub rest_same : {P : List ℕ → Type 0} {S T : ℕ → Type 0} {bytes rest other : List ℕ}
+pub rest_after_unique : {P : List ℕ → Type 0} {S T : ℕ → Type 0} {bytes rest other : List ℕ}
     → RestAfter P S bytes rest → RestAfter P T bytes other → other ≡ rest
-rest_same {rest = rest} {other = other} p q = elim (p.only other q.stands) [
+rest_after_unique {rest = rest} {other = other} p q = elim (p.only other q.stands) [
   | inl same ↦ same
   | inr more ↦ elim (q.only rest p.stands) [
     | inl same ↦ sym same
@@ -39,18 +40,18 @@ rest_same {rest = rest} {other = other} p q = elim (p.only other q.stands) [
   ]
 ]
 
-pub from_left : {bytes : List ℕ} (text rest : List ℕ) → bytes ≡ text ++ rest
+pub take_prefix_by_rest : {bytes : List ℕ} (text rest : List ℕ) → bytes ≡ text ++ rest
     → take (length bytes - length rest) bytes ≡ text
-from_left {bytes} text rest e =
+take_prefix_by_rest {bytes} text rest e =
     let size : length text ≡ length bytes - length rest =
     omega (arith, ap (λ l. length l) e, length-append text rest) in
     ap (λ l. take (length bytes - length rest) l) e
     ∙ take_at text rest (length bytes - length rest) size
 
-pub longest : {P : List ℕ → Type 0} {S : ℕ → Type 0} {bytes rest : List ℕ}
+pub longest_of_rest_after : {P : List ℕ → Type 0} {S : ℕ → Type 0} {bytes rest : List ℕ}
     → RestAfter P S bytes rest → IsLongest P (take (length bytes - length rest) bytes) bytes rest
-longest {P} {S} {bytes} {rest} it =
-    let same = from_left it.stands.text rest it.stands.splits in
+longest_of_rest_after {P} {S} {bytes} {rest} it =
+    let same = take_prefix_by_rest it.stands.text rest it.stands.splits in
     record {
       is = subst P (sym same) it.stands.is;
       splits = it.stands.splits ∙ ap (λ l. l ++ rest) (sym same);
@@ -72,9 +73,10 @@ longest {P} {S} {bytes} {rest} it =
     no_less more (inr goes) = omega (arith, goes.is_more)
 
 -- all bytes are a text if and only if none remain after the longest
-pub whole : {P : List ℕ → Type 0} {S : ℕ → Type 0} {bytes rest : List ℕ} (empty : Bool)
+pub whole_if_rest_empty : {P : List ℕ → Type 0} {S : ℕ → Type 0} {bytes rest : List ℕ}
+    (empty : Bool)
     → RestAfter P S bytes rest → empty ≡ (length rest == 0) → IsTrue empty ↔ P bytes
-whole {P} {bytes = bytes} {rest} empty it e = (
+whole_if_rest_empty {P} {bytes = bytes} {rest} empty it e = (
   λ yes.
       let none = nil_from_length rest (eqb-true (length rest) 0 (sym e ∙ yes)) in
       subst P (sym (it.stands.splits ∙ ap (λ l. it.stands.text ++ l) none
@@ -86,8 +88,9 @@ whole {P} {bytes = bytes} {rest} empty it e = (
       ]),
 )
 
-pub none_whole : {P : List ℕ → Type 0} {bytes : List ℕ} → NoneStands P bytes → P bytes → ⊥
-none_whole {bytes = bytes} none is =
+pub no_match_is_not_whole : {P : List ℕ → Type 0} {bytes : List ℕ} → NoMatchAtStart P bytes
+    → P bytes → ⊥
+no_match_is_not_whole {bytes = bytes} none is =
     none [] (record { text = bytes; is = is; splits = sym (append-nil bytes) })
 
 -- ---- from one position to a later one
@@ -98,26 +101,26 @@ pub record SameMatches (T : List ℕ → Type 0) (start now : List ℕ) : Type 0
   pub on : (rest : List ℕ) → MatchesAtStart T start rest → MatchesAtStart T now rest
   pub back : (rest : List ℕ) → MatchesAtStart T now rest → MatchesAtStart T start rest
 
-pub same_here : {T : List ℕ → Type 0} {start : List ℕ} → SameMatches T start start
-same_here = record { on = λ rest it. it; back = λ rest it. it }
+pub same_matches_refl : {T : List ℕ → Type 0} {start : List ℕ} → SameMatches T start start
+same_matches_refl = record { on = λ rest it. it; back = λ rest it. it }
 
-pub same_on : {T : List ℕ → Type 0} {start mid now : List ℕ} → SameMatches T start mid
+pub same_matches_trans : {T : List ℕ → Type 0} {start mid now : List ℕ} → SameMatches T start mid
     → SameMatches T mid now → SameMatches T start now
-same_on p q = record {
+same_matches_trans p q = record {
   on = λ rest it. q.on rest (p.on rest it);
   back = λ rest it. p.back rest (q.back rest it);
 }
 
-pub same_leaves : {T : List ℕ → Type 0} {S : ℕ → Type 0} {start now rest : List ℕ}
+pub same_matches_rest : {T : List ℕ → Type 0} {S : ℕ → Type 0} {start now rest : List ℕ}
     → SameMatches T start now → RestAfter T S now rest → RestAfter T S start rest
-same_leaves {rest = rest} same it = record {
+same_matches_rest {rest = rest} same it = record {
   stands = same.back rest it.stands;
   only = λ other is. it.only other (same.on other is);
 }
 
-pub same_none : {T : List ℕ → Type 0} {start now : List ℕ} → SameMatches T start now
-    → NoneStands T now → NoneStands T start
-same_none same none rest it = none rest (same.on rest it)
+pub same_matches_none : {T : List ℕ → Type 0} {start now : List ℕ} → SameMatches T start now
+    → NoMatchAtStart T now → NoMatchAtStart T start
+same_matches_none same none rest it = none rest (same.on rest it)
 
 -- ---- results of calls
 
@@ -125,50 +128,53 @@ same_none same none rest it = none rest (same.on rest it)
 -- there is no such text.
 abbrev pub Scans : (List ℕ → Type 0) → (ℕ → Type 0) → List ℕ → Option (Bor (List ℕ)) → Type 0
 Scans P S bytes result =
-    MatchOption result (NoneStands P bytes) (λ rest. RestAfter P S bytes rest.now)
+    MatchOption result (NoMatchAtStart P bytes) (λ rest. RestAfter P S bytes rest.now)
 
 pub then_scans : {P Q : List ℕ → Type 0} {S : ℕ → Type 0} (T : ℕ → Type 0) {bytes mid : List ℕ}
-    (result : Option (Bor (List ℕ))) → Bars Q S → RestAfter P S bytes mid → Scans Q T mid result
+    (result : Option (Bor (List ℕ))) → NeverStartsWith Q S → RestAfter P S bytes mid
+    → Scans Q T mid result
     → Scans (Then P Q) T bytes result
-then_scans T None bars p none = then_none bars p none
-then_scans T (Some rest) bars p q = then_exact bars p q
+then_scans T None bars p none = no_match_of_second bars p none
+then_scans T (Some rest) bars p q = rest_after_then bars p q
 
 module _ (P Q : List ℕ → Type 0) (S : ℕ → Type 0) (bytes : List ℕ) where
-  pub left_scans : (result : Option (Bor (List ℕ))) → NoneStands Q bytes → Scans P S bytes result
+  pub first_scans : (result : Option (Bor (List ℕ))) → NoMatchAtStart Q bytes
+      → Scans P S bytes result
       → Scans (Either P Q) S bytes result
-  left_scans None none p = either_none p none
-  left_scans (Some rest) none p = either_left p none
+  first_scans None none p = no_match_of_either p none
+  first_scans (Some rest) none p = rest_after_left p none
 
-  pub right_scans : (result : Option (Bor (List ℕ))) → NoneStands P bytes → Scans Q S bytes result
+  pub second_scans : (result : Option (Bor (List ℕ))) → NoMatchAtStart P bytes
+      → Scans Q S bytes result
       → Scans (Either P Q) S bytes result
-  right_scans None none q = either_none none q
-  right_scans (Some rest) none q = either_right none q
+  second_scans None none q = no_match_of_either none q
+  second_scans (Some rest) none q = rest_after_right none q
 
 pub grown_scans : (P : List ℕ → Type 0) (S T : ℕ → Type 0) (bytes : List ℕ)
     (result : Option (Bor (List ℕ))) → ((b : ℕ) → S b → T b) → Scans P S bytes result
     → Scans P T bytes result
 grown_scans P S T bytes None wider none = none
-grown_scans P S T bytes (Some rest) wider it = widen wider it
+grown_scans P S T bytes (Some rest) wider it = rest_after_wider wider it
 
 pub wide_scans : (P : List ℕ → Type 0) (S : ℕ → Type 0) (bytes : List ℕ)
-    (result : Option (Bor (List ℕ))) → Scans P Never bytes result → Scans P S bytes result
-wide_scans P S bytes result it = grown_scans P Never S bytes result (λ b n. absurd n) it
+    (result : Option (Bor (List ℕ))) → Scans P NoByte bytes result → Scans P S bytes result
+wide_scans P S bytes result it = grown_scans P NoByte S bytes result (λ b n. absurd n) it
 
 pub this_scans : (c : ℕ) (bytes : List ℕ) (result : Option (Bor (List ℕ)))
     → MatchOption result ((more : List ℕ) → bytes ≡ c ∷ more → ⊥) (λ rest. bytes ≡ c ∷ rest.now)
-    → Scans (IsByte (λ b. b ≡ c)) Never bytes result
-this_scans c bytes None none = this_none c none
-this_scans c bytes (Some rest) e = byte_leaves e refl
+    → Scans (IsByte (λ b. b ≡ c)) NoByte bytes result
+this_scans c bytes None none = no_given_byte c none
+this_scans c bytes (Some rest) e = rest_after_byte e refl
 
 pub same_scans : {T : List ℕ → Type 0} (S : ℕ → Type 0) {start now : List ℕ}
     (result : Option (Bor (List ℕ))) → SameMatches T start now → Scans T S now result
     → Scans T S start result
-same_scans S None same none = same_none same none
-same_scans S (Some rest) same it = same_leaves same it
+same_scans S None same none = same_matches_none same none
+same_scans S (Some rest) same it = same_matches_rest same it
 
-pub if_none : {A : Type 0} (P : Type 0) (o : Option A) → P → IfNone o P
-if_none P None holds = holds
-if_none P (Some x) holds = tt
+pub if_none_of_true : {A : Type 0} (P : Type 0) (o : Option A) → P → IfNone o P
+if_none_of_true P None holds = holds
+if_none_of_true P (Some x) holds = tt
 
 pub match_on : {A : Type 0} (N M : Type 0) (P Q : A → Type 0) (o : Option A) → (N → M)
     → ((a : A) → P a → Q a) → MatchOption o N P → MatchOption o M Q
@@ -176,5 +182,5 @@ match_on N M P Q None none some it = none it
 match_on N M P Q (Some a) none some it = some a it
 
 -- a test that decides X failed
-pub not_by : {X : Type 0} {test : Bool} → IsTrue test ↔ X → test ≡ false → X → ⊥
-not_by decides e x = true≢false (sym (decides.1 x) ∙ e)
+pub refuted_by_test : {X : Type 0} {test : Bool} → IsTrue test ↔ X → test ≡ false → X → ⊥
+refuted_by_test decides e x = true≢false (sym (decides.1 x) ∙ e)

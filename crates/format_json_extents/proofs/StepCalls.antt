@@ -4,18 +4,20 @@ use Rattle.std.proofs.Common.{inl, inr, nat_lt, refl, subst, sym}
 use Rattle.std.specs.Prelude.{⊤}
 use Rattle.std.proofs.lemmas.List.{append-nil, append_cancel_right}
 use Rattle.std.proofs.lemmas.List.Elements.{All-append, All-cons, All-head, All-nil, All-weaker}
-use Rattle.format_json_extents.proofs.Matching.{Begins, all_leaves, begins_at, joined, one}
-use Rattle.format_json_extents.proofs.Matching.{same_first, then_none, this_none}
-use Rattle.format_json_extents.proofs.Scanning.{rest_same}
+use Rattle.format_json_extents.proofs.Matching.{FirstByteIs, first_byte_of_match, heads_equal}
+use Rattle.format_json_extents.proofs.Matching.{no_given_byte, no_match_of_second, one_byte_text}
+use Rattle.format_json_extents.proofs.Matching.{rest_after_all, then_of_parts}
+use Rattle.format_json_extents.proofs.Scanning.{rest_after_unique}
 use Rattle.format_json_extents.proofs.Values.{colon_bars}
 use Rattle.format_json_extents.proofs.Walks.{IsFirstOfToken, lead_no_token, token_bracket}
 use Rattle.format_json_extents.proofs.Walks.{token_starts}
-use Rattle.format_json_extents.specs.Number.{IsNumberByte}
+use Rattle.format_json_extents.specs.Number.{ExtendsNumber}
 use Rattle.format_json_extents.specs.Steps.{IsBeforeColon, IsBracket, IsNextStep, IsOfStep, IsToken}
 use Rattle.format_json_extents.specs.StepLists.{InTurn, IsScalarOf, StepList, StepsResult}
 use Rattle.format_json_extents.specs.Texts.{IsByte, MatchesAtStart, Maybe, RestAfter, Then}
-use Rattle.format_json_extents.specs.Value.{IsGap, IsSpace}
-use Rattle.format_json_extents.specs.Walk.{IsClosingByte, IsLead, IsLeadByte, IsMark}
+use Rattle.format_json_extents.specs.Value.{IsWhitespace, IsWhitespaceByte}
+use Rattle.format_json_extents.specs.Walk.{ExtendsSeparator, IsClosingByte, IsCommaOrColon}
+use Rattle.format_json_extents.specs.Walk.{IsSeparator}
 use Rattle.format_json_extents.specs.declared.steps.Step.{Step}
 use Rattle.format_json_extents.specs.declared.steps.Step.TheVariants as steps
 use Rattle.std.specs.List.{All}
@@ -25,26 +27,28 @@ use Rattle.format_json_extents.specs.Strings.{IsString}
 
 -- ---- the bytes before a step
 
-lead_all : (lead : List ℕ) → IsLead lead → All IsLeadByte lead
+lead_all : (lead : List ℕ) → IsSeparator lead → All ExtendsSeparator lead
 lead_all lead is =
-    subst (All IsLeadByte) (sym is.joins)
-    (All-append IsLeadByte is.first is.second
-    (All-weaker IsSpace IsLeadByte (λ b s. inl s) is.first is.is_first)
+    subst (All ExtendsSeparator) (sym is.joins)
+    (All-append ExtendsSeparator is.first is.second
+    (All-weaker IsWhitespaceByte ExtendsSeparator (λ b s. inl s) is.first is.is_first)
     (marked is.second is.is_second))
   where
-    marked : (text : List ℕ) → Maybe (Then (IsByte IsMark) IsGap) text → All IsLeadByte text
-    marked text (inl e) = subst (All IsLeadByte) (sym e) (All-nil IsLeadByte)
+    marked : (text : List ℕ) → Maybe (Then (IsByte IsCommaOrColon) IsWhitespace) text
+        → All ExtendsSeparator text
+    marked text (inl e) = subst (All ExtendsSeparator) (sym e) (All-nil ExtendsSeparator)
     marked text (inr m) =
-        subst (All IsLeadByte) (sym (m.joins ∙ ap (λ l. l ++ m.second) m.is_first.alone))
-        (All-cons IsLeadByte m.is_first.byte m.second (inr (inr m.is_first.is_byte))
-        (All-weaker IsSpace IsLeadByte (λ b s. inl s) m.second m.is_second))
+        subst (All ExtendsSeparator) (sym (m.joins ∙ ap (λ l. l ++ m.second) m.is_first.alone))
+        (All-cons ExtendsSeparator m.is_first.byte m.second (inr (inr m.is_first.is_byte))
+        (All-weaker IsWhitespaceByte ExtendsSeparator (λ b s. inl s) m.second m.is_second))
 
-pub lead_longest : (lead : List ℕ) {bytes start : List ℕ} → IsLead lead → bytes ≡ lead ++ start
-    → Begins IsFirstOfToken start → RestAfter (All IsLeadByte) IsLeadByte bytes start
+pub lead_longest : (lead : List ℕ) {bytes start : List ℕ} → IsSeparator lead → bytes ≡ lead ++ start
+    → FirstByteIs IsFirstOfToken start
+    → RestAfter (All ExtendsSeparator) ExtendsSeparator bytes start
 lead_longest lead is e first =
-    all_leaves lead (lead_all lead is) e
+    rest_after_all lead (lead_all lead is) e
     (λ b more f l. lead_no_token b l
-    (subst IsFirstOfToken (same_first (sym first.begins ∙ f)) first.is))
+    (subst IsFirstOfToken (heads_equal (sym first.begins ∙ f)) first.is))
 
 -- ---- which step a text is
 
@@ -77,22 +81,22 @@ number_step b is = grind (arith, nat_tests, is)
 
 string_step : (b : ℕ) (more : List ℕ) → IsString (b ∷ more) → step_at b ≡ steps.String
 string_step b more is =
-    let first = string_starts (b ∷ more) is in ap step_at (same_first first.begins ∙ first.is)
+    let first = string_starts (b ∷ more) is in ap step_at (heads_equal first.begins ∙ first.is)
 
 first_step : (s : Step) (b : ℕ) (more rest : List ℕ) → IsOfStep s (b ∷ more) rest
     → step_at b ≡ unnamed s
-first_step steps.Null b more rest is = ap step_at (same_first is)
-first_step steps.False b more rest is = ap step_at (same_first is)
-first_step steps.True b more rest is = ap step_at (same_first is)
+first_step steps.Null b more rest is = ap step_at (heads_equal is)
+first_step steps.False b more rest is = ap step_at (heads_equal is)
+first_step steps.True b more rest is = ap step_at (heads_equal is)
 first_step steps.Number b more rest is =
     let first = number_starts (b ∷ more) is in
-    number_step b (subst IsFirstOfNumber (sym (same_first first.begins)) first.is)
+    number_step b (subst IsFirstOfNumber (sym (heads_equal first.begins)) first.is)
 first_step steps.String b more rest is = string_step b more is.0
 first_step steps.Name b more rest is = string_step b more is.0
-first_step steps.BeginArray b more rest is = ap step_at (same_first is)
-first_step steps.EndArray b more rest is = ap step_at (same_first is)
-first_step steps.BeginObject b more rest is = ap step_at (same_first is)
-first_step steps.EndObject b more rest is = ap step_at (same_first is)
+first_step steps.BeginArray b more rest is = ap step_at (heads_equal is)
+first_step steps.EndArray b more rest is = ap step_at (heads_equal is)
+first_step steps.BeginObject b more rest is = ap step_at (heads_equal is)
+first_step steps.EndObject b more rest is = ap step_at (heads_equal is)
 
 is_token : (s : Step) (text rest : List ℕ) → IsOfStep s text rest → IsToken text
 is_token steps.Null text rest is = inr (inr (inr (inl is)))
@@ -101,10 +105,10 @@ is_token steps.True text rest is = inr (inr (inr (inr (inl is))))
 is_token steps.Number text rest is = inr (inr (inl is))
 is_token steps.String text rest is = inr (inl is.0)
 is_token steps.Name text rest is = inr (inl is.0)
-is_token steps.BeginArray text rest is = inl (one (inl (inl refl)) is)
-is_token steps.EndArray text rest is = inl (one (inr (inl refl)) is)
-is_token steps.BeginObject text rest is = inl (one (inl (inr refl)) is)
-is_token steps.EndObject text rest is = inl (one (inr (inr refl)) is)
+is_token steps.BeginArray text rest is = inl (one_byte_text (inl (inl refl)) is)
+is_token steps.EndArray text rest is = inl (one_byte_text (inr (inl refl)) is)
+is_token steps.BeginObject text rest is = inl (one_byte_text (inl (inr refl)) is)
+is_token steps.EndObject text rest is = inl (one_byte_text (inr (inr refl)) is)
 
 -- a text is one step
 step_same : (s t : Step) (text rest : List ℕ) → IsOfStep s text rest → IsOfStep t text rest
@@ -135,7 +139,7 @@ step_same s t text rest is also =
 -- is of kind `step`; `rest` follows.
 pub record Here (step : Step) (text bytes rest : List ℕ) : Type 0 where
   pub lead : List ℕ
-  pub is_lead : IsLead lead
+  pub is_lead : IsSeparator lead
   pub splits : bytes ≡ lead ++ (text ++ rest)
   pub is_step : IsOfStep step text rest
 
@@ -150,9 +154,11 @@ module _ (bytes mid : List ℕ) (s : Step) (t : List ℕ) (next : IsNextStep s t
   -- the call begins here
   begins_here : next.start ≡ text ++ rest
   begins_here =
-      rest_same
-      (lead_longest here.lead here.is_lead here.splits (begins_at token_starts matches_here))
-      (lead_longest next.lead next.is_lead next.splits (begins_at token_starts matches_next))
+      rest_after_unique
+      (lead_longest here.lead here.is_lead here.splits
+      (first_byte_of_match token_starts matches_here))
+      (lead_longest next.lead next.is_lead next.splits
+      (first_byte_of_match token_starts matches_next))
 
   -- where it leaves the same rest it returns this step
   told_here : mid ≡ rest → ◌≡◌ {A = Step × List ℕ} (s, t) (step, text)
@@ -166,7 +172,7 @@ module _ (bytes mid : List ℕ) (s : Step) (t : List ℕ) (next : IsNextStep s t
       ap X (step_same s step text rest (subst Q same (subst P is next.is_step)) here.is_step)
       ∙ ap Y is
 
-  pub leaves_scalar : ((b : ℕ) (more : List ℕ) → rest ≡ b ∷ more → IsNumberByte b → ⊥)
+  pub leaves_scalar : ((b : ℕ) (more : List ℕ) → rest ≡ b ∷ more → ExtendsNumber b → ⊥)
       → mid ≡ rest
   leaves_scalar stops =
       elim (next.others rest (record {
@@ -180,7 +186,7 @@ module _ (bytes mid : List ℕ) (s : Step) (t : List ℕ) (next : IsNextStep s t
 
   pub leaves_bracket : (b : ℕ) → IsBracket b → text ≡ b ∷ [] → mid ≡ rest
   leaves_bracket b is alone =
-      rest_same (token_bracket (begins_here ∙ ap (λ l. l ++ rest) alone) is)
+      rest_after_unique (token_bracket (begins_here ∙ ap (λ l. l ++ rest) alone) is)
       (record { stands = matches_next; only = next.others })
 
 -- ---- successive calls
@@ -203,7 +209,8 @@ tells_of step text bytes rest told here leaves more [] last e =
         rest,
         record {
           text = here.lead ++ text;
-          is = joined here.lead text here.is_lead (is_token step text rest here.is_step) refl;
+          is = then_of_parts here.lead text here.is_lead (is_token step text rest here.is_step)
+              refl;
           splits = sym e ∙ here.splits ∙ sym (append_assoc here.lead text rest);
         },
       ),
@@ -226,7 +233,7 @@ tells_of step text bytes rest told here leaves more ((s, t) ∷ found) last (mid
 
 pub tells_scalar : (step : Step) (text bytes rest : List ℕ) {told : StepList}
     → Here step text bytes rest
-    → ((b : ℕ) (more : List ℕ) → rest ≡ b ∷ more → IsNumberByte b → ⊥) → Told told rest
+    → ((b : ℕ) (more : List ℕ) → rest ≡ b ∷ more → ExtendsNumber b → ⊥) → Told told rest
     → Told ((step, text) ∷ told) bytes
 tells_scalar step text bytes rest {told} here stops =
     tells_of step text bytes rest told here
@@ -252,32 +259,34 @@ Stops (b ∷ more) = IsStop b
 -- after whitespace
 abbrev pub Follows : List ℕ → Type 0
 Follows rest =
-    (gap : List ℕ) × (tail : List ℕ) × IsGap gap × (rest ≡ gap ++ tail) × Stops tail
+    (gap : List ℕ) × (tail : List ℕ) × IsWhitespace gap × (rest ≡ gap ++ tail) × Stops tail
 
-stop_no_number : (b : ℕ) → IsStop b → IsNumberByte b → ⊥
+stop_no_number : (b : ℕ) → IsStop b → ExtendsNumber b → ⊥
 stop_no_number b is number = grind (arith, is, number)
 
-pub space_no_number : (b : ℕ) → IsSpace b → IsNumberByte b → ⊥
+pub space_no_number : (b : ℕ) → IsWhitespaceByte b → ExtendsNumber b → ⊥
 space_no_number b is number = grind (arith, is, number)
 
-stop_no_space : (b : ℕ) → IsStop b → IsSpace b → ⊥
+stop_no_space : (b : ℕ) → IsStop b → IsWhitespaceByte b → ⊥
 stop_no_space b is s = grind (arith, is, s)
 
 stop_no_colon : IsStop 58 → ⊥
 stop_no_colon is = grind (arith, is)
 
 pub follows_stops : (rest : List ℕ) → Follows rest → (b : ℕ) (more : List ℕ) → rest ≡ b ∷ more
-    → IsNumberByte b → ⊥
+    → ExtendsNumber b → ⊥
 follows_stops rest ([], tail, all, e, stops) b more f =
     stop_no_number b (subst Stops (sym e ∙ f) stops)
 follows_stops rest (c ∷ gap, tail, all, e, stops) b more f =
-    space_no_number b (subst IsSpace (same_first (sym e ∙ f)) (All-head IsSpace c gap all))
+    space_no_number b
+    (subst IsWhitespaceByte (heads_equal (sym e ∙ f))
+    (All-head IsWhitespaceByte c gap all))
 
 pub follows_no_colon : (rest : List ℕ) → Follows rest → IsBeforeColon rest → ⊥
 follows_no_colon rest (gap, tail, all, e, stops) (after, it) =
-    then_none colon_bars
-    (all_leaves gap all e (λ b more f. stop_no_space b (subst Stops f stops)))
-    (this_none 58 (λ more f. stop_no_colon (subst Stops f stops))) after it
+    no_match_of_second colon_bars
+    (rest_after_all gap all e (λ b more f. stop_no_space b (subst Stops f stops)))
+    (no_given_byte 58 (λ more f. stop_no_colon (subst Stops f stops))) after it
 
 pub scalar_step : (step : Step) (text rest : List ℕ) → IsScalarOf step text
     → (IsBeforeColon rest → ⊥) → IsOfStep step text rest
@@ -292,12 +301,14 @@ scalar_step step text rest is not = absurd is
 
 -- `front` followed by whitespace may precede a step.
 abbrev pub Leading : List ℕ → Type 0
-Leading front = (gap : List ℕ) → IsGap gap → IsLead (front ++ gap)
+Leading front = (gap : List ℕ) → IsWhitespace gap → IsSeparator (front ++ gap)
 
-pub gap_leads : (gap : List ℕ) → IsGap gap → IsLead gap
-gap_leads gap all = joined gap [] all (inl refl) (sym (append-nil gap))
+pub gap_leads : (gap : List ℕ) → IsWhitespace gap → IsSeparator gap
+gap_leads gap all = then_of_parts gap [] all (inl refl) (sym (append-nil gap))
 
-pub mark_leads : (gap : List ℕ) (b : ℕ) → IsGap gap → IsMark b → Leading (gap ++ b ∷ [])
+pub mark_leads : (gap : List ℕ) (b : ℕ) → IsWhitespace gap → IsCommaOrColon b
+    → Leading (gap ++ b ∷ [])
 mark_leads gap b all is after also =
-    joined gap (b ∷ after) all (inr (joined (b ∷ []) after (one is refl) also refl))
+    then_of_parts gap (b ∷ after) all
+    (inr (then_of_parts (b ∷ []) after (one_byte_text is refl) also refl))
     (append_assoc gap (b ∷ []) after)

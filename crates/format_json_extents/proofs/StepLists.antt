@@ -3,25 +3,27 @@ use Rattle.std.proofs.Common.{◌++◌, ◌∙◌, ◌∷◌, ◌≡◌, ◌⊎�
 use Rattle.std.proofs.Common.{false, inl, inr, length, refl, subst, suc, sym, true, zero}
 use Rattle.std.proofs.lemmas.List.{append-nil}
 use Rattle.std.proofs.lemmas.List.Elements.{All-head, All-weaker}
-use Rattle.format_json_extents.proofs.Matching.{all_leaves, begins_at, byte_matches, joined, one}
-use Rattle.format_json_extents.proofs.Matching.{same_first, then_matches, this_then}
-use Rattle.format_json_extents.proofs.Scanning.{rest_same}
+use Rattle.format_json_extents.proofs.Matching.{byte_matches, first_byte_of_match}
+use Rattle.format_json_extents.proofs.Matching.{given_byte_then_is_cons, heads_equal}
+use Rattle.format_json_extents.proofs.Matching.{rest_after_all, then_matches, then_of_parts}
+use Rattle.format_json_extents.proofs.Scanning.{rest_after_unique}
 use Rattle.format_json_extents.proofs.StepCalls.{Follows, Leading, Stops, Told}
 use Rattle.format_json_extents.proofs.StepCalls.{follows_no_colon, follows_stops, gap_leads}
 use Rattle.format_json_extents.proofs.StepCalls.{lead_longest, mark_leads, scalar_step}
 use Rattle.format_json_extents.proofs.StepCalls.{space_no_number, tells_bracket, tells_scalar}
 use Rattle.format_json_extents.proofs.Walks.{token_starts}
-use Rattle.format_json_extents.specs.Number.{IsNumberByte}
+use Rattle.format_json_extents.specs.Number.{ExtendsNumber}
 use Rattle.format_json_extents.specs.Steps.{IsBeforeColon}
 use Rattle.format_json_extents.specs.StepLists.{InTurn, IsScalarOf, StepList, StepsOfElement}
 use Rattle.format_json_extents.specs.StepLists.{StepsOfItem, StepsOfList, StepsOfMember}
 use Rattle.format_json_extents.specs.StepLists.{StepsOfNested, StepsOfScalar, StepsOfText}
 use Rattle.format_json_extents.specs.StepLists.{StepsOfValue, begin_of, end_of}
 use Rattle.format_json_extents.specs.StepLists.{tells_before, tells_last}
-use Rattle.format_json_extents.specs.Texts.{IsByte, List_of, Then, before, last}
-use Rattle.format_json_extents.specs.Value.{IsElement, IsGap, IsItem, IsMember, IsNestedTail}
-use Rattle.format_json_extents.specs.Value.{IsScalar, IsSpace, IsText, IsValue, closing, opening}
-use Rattle.format_json_extents.specs.Walk.{IsClosingByte, IsLead, IsLeadByte}
+use Rattle.format_json_extents.specs.Texts.{CommaSeparated, IsByte, Then, before, last}
+use Rattle.format_json_extents.specs.Value.{IsElement, IsItem, IsMember, IsNestedTail, IsScalar}
+use Rattle.format_json_extents.specs.Value.{IsText, IsValue, IsWhitespace, IsWhitespaceByte}
+use Rattle.format_json_extents.specs.Value.{closing_bracket, opening_bracket}
+use Rattle.format_json_extents.specs.Walk.{ExtendsSeparator, IsClosingByte, IsSeparator}
 use Rattle.format_json_extents.specs.declared.steps.Step.{Step}
 use Rattle.format_json_extents.specs.declared.steps.Step.TheVariants as steps
 
@@ -31,7 +33,7 @@ use Rattle.format_json_extents.specs.declared.steps.Step.TheVariants as steps
 abbrev Walks : (List ℕ → Type 0) → (StepList → List ℕ → Type 0) → Type 0
 Walks P tells =
     (text : List ℕ) → P text → (told : StepList) × tells told text × ((lead rest : List ℕ)
-    (more : StepList) → IsLead lead → Follows rest → Told more rest
+    (more : StepList) → IsSeparator lead → Follows rest → Told more rest
     → Told (told ++ more) (lead ++ (text ++ rest)))
 
 -- The same of texts with whitespace around them.
@@ -39,7 +41,7 @@ abbrev Arrives : (List ℕ → Type 0) → (StepList → List ℕ → Type 0) �
 Arrives P tells =
     (text : List ℕ) → P text → (told : StepList) × tells told text × ((front tail : List ℕ)
     (more : StepList) → Leading front → Stops tail
-    → ((gap : List ℕ) → IsGap gap → Told more (gap ++ tail))
+    → ((gap : List ℕ) → IsWhitespace gap → Told more (gap ++ tail))
     → Told (told ++ more) (front ++ (text ++ tail)))
 
 told_from : {told : StepList} {start other : List ℕ} → start ≡ other → Told told other
@@ -61,7 +63,7 @@ scalar_walks text is = elim is [
 ]
   where
     one_step : (step : Step) → IsScalarOf step text → (told : StepList)
-        × StepsOfScalar told text × ((lead rest : List ℕ) (more : StepList) → IsLead lead
+        × StepsOfScalar told text × ((lead rest : List ℕ) (more : StepList) → IsSeparator lead
         → Follows rest → Told more rest → Told (told ++ more) (lead ++ (text ++ rest)))
     one_step step is = (
       (step, text) ∷ [],
@@ -76,7 +78,7 @@ scalar_walks text is = elim is [
     )
 
 list_arrives : {P : List ℕ → Type 0} {tells : StepList → List ℕ → Type 0} → Arrives P tells
-    → Arrives (List_of P) (StepsOfList tells)
+    → Arrives (CommaSeparated P) (StepsOfList tells)
 list_arrives item _ (last text is) =
     let (told, it, calls) = item text is in (told, tells_last told text it, calls)
 list_arrives item _ (before first others text is items e) =
@@ -91,23 +93,25 @@ list_arrives item _ (before first others text is items e) =
           (behind (gap ++ 44 ∷ []) tail more (mark_leads gap 44 all (inl refl)) stops ends)))),
     )
 
-colon_after : (gap more : List ℕ) → IsGap gap → IsBeforeColon (gap ++ 58 ∷ more)
+colon_after : (gap more : List ℕ) → IsWhitespace gap → IsBeforeColon (gap ++ 58 ∷ more)
 colon_after gap more all = (
   more,
   then_matches {mid = 58 ∷ more} (record { text = gap; is = all; splits = refl })
       (byte_matches refl refl),
 )
 
-colon_stops : (gap more : List ℕ) → IsGap gap → (b : ℕ) (others : List ℕ)
-    → gap ++ 58 ∷ more ≡ b ∷ others → IsNumberByte b → ⊥
+colon_stops : (gap more : List ℕ) → IsWhitespace gap → (b : ℕ) (others : List ℕ)
+    → gap ++ 58 ∷ more ≡ b ∷ others → ExtendsNumber b → ⊥
 colon_stops [] more all b others e number =
-    let is = same_first e in grind (arith, is, number)
+    let is = heads_equal e in grind (arith, is, number)
 colon_stops (g ∷ gap) more all b others e number =
-    space_no_number b (subst IsSpace (same_first e) (All-head IsSpace g gap all)) number
+    space_no_number b
+    (subst IsWhitespaceByte (heads_equal e) (All-head IsWhitespaceByte g gap all)) number
 
-begin_here : (keyed : Bool) (lead rest : List ℕ) {told : StepList} → IsLead lead
+begin_here : (keyed : Bool) (lead rest : List ℕ) {told : StepList} → IsSeparator lead
     → Told told rest
-    → Told ((begin_of keyed, opening keyed ∷ []) ∷ told) (lead ++ opening keyed ∷ rest)
+    → Told ((begin_of keyed, opening_bracket keyed ∷ []) ∷ told)
+    (lead ++ opening_bracket keyed ∷ rest)
 begin_here true lead rest is =
     tells_bracket steps.BeginObject 123 (lead ++ 123 ∷ rest) rest
     (record { lead = lead; is_lead = is; splits = refl; is_step = refl }) (inl (inr refl))
@@ -115,8 +119,8 @@ begin_here false lead rest is =
     tells_bracket steps.BeginArray 91 (lead ++ 91 ∷ rest) rest
     (record { lead = lead; is_lead = is; splits = refl; is_step = refl }) (inl (inl refl))
 
-end_here : (keyed : Bool) (gap rest : List ℕ) {told : StepList} → IsGap gap → Told told rest
-    → Told ((end_of keyed, closing keyed ∷ []) ∷ told) (gap ++ closing keyed ∷ rest)
+end_here : (keyed : Bool) (gap rest : List ℕ) {told : StepList} → IsWhitespace gap → Told told rest
+    → Told ((end_of keyed, closing_bracket keyed ∷ []) ∷ told) (gap ++ closing_bracket keyed ∷ rest)
 end_here true gap rest all =
     tells_bracket steps.EndObject 125 (gap ++ 125 ∷ rest) rest
     (record { lead = gap; is_lead = gap_leads gap all; splits = refl; is_step = refl })
@@ -126,7 +130,7 @@ end_here false gap rest all =
     (record { lead = gap; is_lead = gap_leads gap all; splits = refl; is_step = refl })
     (inr (inl refl))
 
-closing_byte : (keyed : Bool) → IsClosingByte (closing keyed)
+closing_byte : (keyed : Bool) → IsClosingByte (closing_bracket keyed)
 closing_byte true = inr refl
 closing_byte false = inl refl
 
@@ -136,8 +140,8 @@ module _ (V : List ℕ → Type 0) (tells : StepList → List ℕ → Type 0) (w
       let v = is.is_second in
       let (told, it, calls) = walks v.first v.is_first in (
         told,
-        joined is.first is.second is.is_first
-            (joined v.first v.second it v.is_second v.joins) is.joins,
+        then_of_parts is.first is.second is.is_first
+            (then_of_parts v.first v.second it v.is_second v.joins) is.joins,
         λ front tail more leads stops ends.
             let e : front ++ (text ++ tail)
             ≡ (front ++ is.first) ++ (v.first ++ (v.second ++ tail)) =
@@ -158,9 +162,10 @@ module _ (V : List ℕ → Type 0) (tells : StepList → List ℕ → Type 0) (w
           name = named.first;
           others = told;
           is_name = named.is_first;
-          is_member = joined is.first is.second
-              (joined key.first key.second key.is_first
-              (joined named.first named.second refl named.is_second named.joins) key.joins) it
+          is_member = then_of_parts is.first is.second
+              (then_of_parts key.first key.second key.is_first
+              (then_of_parts named.first named.second refl named.is_second named.joins)
+              key.joins) it
               is.joins;
           in_turn = refl;
         },
@@ -187,26 +192,27 @@ module _ (V : List ℕ → Type 0) (tells : StepList → List ℕ → Type 0) (w
   item_arrives false = element_arrives
 
   nested_walks : (keyed : Bool)
-      → Walks (Then (IsByte (λ b. b ≡ opening keyed)) (IsNestedTail keyed V))
+      → Walks (Then (IsByte (λ b. b ≡ opening_bracket keyed)) (IsNestedTail keyed V))
       (StepsOfNested keyed tells)
   nested_walks keyed text is = by is.is_second
     where
       walked : (inner : StepList) (inside end : List ℕ)
-          → (IsGap inside × (inner ≡ [])) ⊎ StepsOfList (StepsOfItem keyed tells) inner inside
-          → IsByte (λ b. b ≡ closing keyed) end → is.second ≡ inside ++ end
-          → ((rest : List ℕ) (more : StepList) → ((gap : List ℕ) → IsGap gap
-          → Told more (gap ++ closing keyed ∷ rest))
-          → Told (inner ++ more) (inside ++ closing keyed ∷ rest))
+          → (IsWhitespace inside × (inner ≡ []))
+          ⊎ StepsOfList (StepsOfItem keyed tells) inner inside
+          → IsByte (λ b. b ≡ closing_bracket keyed) end → is.second ≡ inside ++ end
+          → ((rest : List ℕ) (more : StepList) → ((gap : List ℕ) → IsWhitespace gap
+          → Told more (gap ++ closing_bracket keyed ∷ rest))
+          → Told (inner ++ more) (inside ++ closing_bracket keyed ∷ rest))
           → (told : StepList) × StepsOfNested keyed tells told text × ((lead rest : List ℕ)
-          (more : StepList) → IsLead lead → Follows rest → Told more rest
+          (more : StepList) → IsSeparator lead → Follows rest → Told more rest
           → Told (told ++ more) (lead ++ (text ++ rest)))
       walked inner inside end items bracket e calls =
-          let joins : text ≡ opening keyed ∷ (inside ++ closing keyed ∷ []) =
-          this_then (opening keyed) is
-          ∙ ap (λ l. opening keyed ∷ l) (e ∙ ap (λ l. inside ++ l) (bracket.alone
+          let joins : text ≡ opening_bracket keyed ∷ (inside ++ closing_bracket keyed ∷ []) =
+          given_byte_then_is_cons (opening_bracket keyed) is
+          ∙ ap (λ l. opening_bracket keyed ∷ l) (e ∙ ap (λ l. inside ++ l) (bracket.alone
           ∙ ap (λ b. b ∷ []) bracket.is_byte)) in
-          let begun : Step × List ℕ = (begin_of keyed, opening keyed ∷ []) in
-          let ended : Step × List ℕ = (end_of keyed, closing keyed ∷ []) in (
+          let begun : Step × List ℕ = (begin_of keyed, opening_bracket keyed ∷ []) in
+          let ended : Step × List ℕ = (end_of keyed, closing_bracket keyed ∷ []) in (
             begun ∷ (inner ++ ended ∷ []),
             record {
               inner = inner;
@@ -218,12 +224,13 @@ module _ (V : List ℕ → Type 0) (tells : StepList → List ℕ → Type 0) (w
             λ lead rest more leads follows on.
                 told_as _ (ap (λ l. begun ∷ l) (append_assoc inner (ended ∷ []) more))
                 (told_from (simp (joins, append_assoc))
-                (begin_here keyed lead (inside ++ closing keyed ∷ rest) leads
+                (begin_here keyed lead (inside ++ closing_bracket keyed ∷ rest) leads
                 (calls rest (ended ∷ more) (λ gap all. end_here keyed gap rest all on)))),
           )
 
       by : IsNestedTail keyed V is.second → (told : StepList) × StepsOfNested keyed tells told text
-          × ((lead rest : List ℕ) (more : StepList) → IsLead lead → Follows rest → Told more rest
+          × ((lead rest : List ℕ) (more : StepList) → IsSeparator lead → Follows rest
+          → Told more rest
           → Told (told ++ more) (lead ++ (text ++ rest)))
       by (inl it) =
           walked [] it.first it.second (inl (it.is_first, refl)) it.is_second it.joins
@@ -231,7 +238,8 @@ module _ (V : List ℕ → Type 0) (tells : StepList → List ℕ → Type 0) (w
       by (inr it) =
           let (inner, list, calls) = list_arrives (item_arrives keyed) it.first it.is_first in
           walked inner it.first it.second (inr list) it.is_second it.joins
-          (λ rest more. calls [] (closing keyed ∷ rest) more gap_leads (inr (closing_byte keyed)))
+          (λ rest more. calls [] (closing_bracket keyed ∷ rest) more gap_leads
+          (inr (closing_byte keyed)))
 
 value_walks : (level : ℕ) → Walks (IsValue level) (StepsOfValue level)
 value_walks zero text is = scalar_walks text is
@@ -248,15 +256,16 @@ value_walks (suc level) text (inr (inr is)) =
 
 -- ---- texts
 
-gap_told : (gap : List ℕ) → IsGap gap → Told [] gap
+gap_told : (gap : List ℕ) → IsWhitespace gap → Told [] gap
 unfolding InTurn
-gap_told gap all [] rest e = inl (refl, subst IsGap e all)
+gap_told gap all [] rest e = inl (refl, subst IsWhitespace e all)
 gap_told gap all ((s, t) ∷ found) rest (mid, next, others) =
-    let first = begins_at token_starts
+    let first = first_byte_of_match token_starts
     (record { text = t; is = next.longest.is; splits = next.longest.splits }) in
     let none : next.start ≡ [] =
-    rest_same {S = IsLeadByte}
-    (all_leaves gap {rest = []} (All-weaker IsSpace IsLeadByte (λ b s. inl s) gap all)
+    rest_after_unique {S = ExtendsSeparator}
+    (rest_after_all gap {rest = []}
+    (All-weaker IsWhitespaceByte ExtendsSeparator (λ b s. inl s) gap all)
     (sym (append-nil gap)) (λ b more e s. omega (arith, ap (λ l. length l) e)))
     (lead_longest next.lead next.is_lead next.splits first) in
     absurd (omega (arith, ap (λ l. length l) none, ap (λ l. length l) first.begins))

@@ -6,9 +6,9 @@ use Rattle.std.proofs.lemmas.List.{append-nil, drop-drop, drop_at, take_at}
 use Rattle.std.proofs.lemmas.List.Elements.{All-head, All-tail}
 use Rattle.std.specs.Char.{encode_utf8}
 use Rattle.std.specs.List.{All}
-use Rattle.format_json_extents.proofs.Scanning.{from_left}
+use Rattle.format_json_extents.proofs.Scanning.{take_prefix_by_rest}
 use Rattle.format_json_extents.specs.Strings.{IsEscape, IsUnescaped}
-use Rattle.format_json_extents.specs.Texts.{Never, RestAfter}
+use Rattle.format_json_extents.specs.Texts.{NoByte, RestAfter}
 use Rattle.format_json_extents.specs.Unescaped.{IsEscapePut, IsPut, IsTailWritten, Means}
 use Rattle.format_json_extents.specs.Unescaped.{PieceMeans, means_more, means_nothing}
 
@@ -109,18 +109,18 @@ pub wrote_run : {bytes rest ahead old now new run : List ℕ} {count : ℕ}
     → run ≡ take (length rest - length ahead) rest → IsPut run count now new
     → Wrote bytes ahead old new (count + length run)
 wrote_run {bytes} {rest} {ahead} {old} {now} {new} {run} {count} it leaves is put =
-    let same = is ∙ from_left leaves.stands.text ahead leaves.stands.splits in
+    let same = is ∙ take_prefix_by_rest leaves.stands.text ahead leaves.stands.splits in
     wrote_more bytes rest ahead old now new run run count it
     (leaves.stands.splits ∙ ap (λ l. l ++ ahead) (sym same)) (omega arith) put
     (means_run run (subst (All IsUnescaped) (sym same) leaves.stands.is) it.means)
 
 -- and after an escape
 pub wrote_escape : {bytes ahead escape next old now new between : List ℕ} {count end : ℕ}
-    → Wrote bytes ahead old now count → ahead ≡ 92 ∷ escape → RestAfter IsEscape Never escape next
+    → Wrote bytes ahead old now count → ahead ≡ 92 ∷ escape → RestAfter IsEscape NoByte escape next
     → between ≡ take (length escape - length next) escape
     → IsEscapePut between count end now new → Wrote bytes next old new end
 wrote_escape {bytes} {ahead} {next = next} {old} {now} {new} {between} {count} it e leaves is put =
-    let same = is ∙ from_left leaves.stands.text next leaves.stands.splits in
+    let same = is ∙ take_prefix_by_rest leaves.stands.text next leaves.stands.splits in
     subst (Wrote bytes next old new) (sym put.ends)
     (wrote_more bytes ahead next old now new (92 ∷ between) (encode_utf8 put.char) count it
     (e ∙ ap (λ l. 92 ∷ l) (leaves.stands.splits ∙ ap (λ l. l ++ next) (sym same)))

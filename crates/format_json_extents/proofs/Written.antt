@@ -7,9 +7,9 @@ use Rattle.std.specs.List.{All}
 use Rattle.std.specs.Str.{all_scalars, encode_utf8_all}
 use Rattle.std.proofs.lemmas.List.Elements.{All-cons, All-head, All-tail, All-weaker}
 use Rattle.std.proofs.lemmas.Str.{encodes-append}
-use Rattle.format_json_extents.proofs.Characters.{IsLow, Spelling, all_in, and_true, both_true}
-use Rattle.format_json_extents.proofs.Characters.{byte_in, low_front, low_on, then_in}
-use Rattle.format_json_extents.proofs.Matching.{joined, one}
+use Rattle.format_json_extents.proofs.Characters.{IsAscii, Spelling, all_in, and_true, ascii_prefix}
+use Rattle.format_json_extents.proofs.Characters.{both_true, byte_in, low_on, then_in}
+use Rattle.format_json_extents.proofs.Matching.{one_byte_text, then_of_parts}
 use Rattle.format_json_extents.specs.Texts.{Either, IsByte, Maybe, Then}
 use Rattle.format_parts.specs.Words.{For, In, One, Run}
 use Rattle.streams.specs.Text.{text_reading}
@@ -52,7 +52,8 @@ pub scalars_parts : (xs ys : List ℕ) → all_scalars (xs ++ ys) ≡ true
 scalars_parts [] ys h = (refl, h)
 scalars_parts (x ∷ xs) ys h =
     let (one, more) = both_true _ (all_scalars (xs ++ ys)) h in
-    let (front, rest) = scalars_parts xs ys more in (and_true _ (all_scalars xs) one front, rest)
+    let (front, rest) =
+    scalars_parts xs ys more in (and_true _ (all_scalars xs) one front, rest)
 
 pub fit_parts : {A : Type 0} (cs xs ys : List ℕ) → cs ≡ xs ++ ys → Fits A cs → Fits A xs × Fits A ys
 fit_parts cs xs ys e fits =
@@ -89,7 +90,8 @@ pub then_written : {A O1 O2 O : Type 0} (output : O1 → O2 → O) {P Q : List �
 unfolding Both
 then_written output p q = record {
   set = λ e o cs (a, b, xs, ys, x, y, f, out).
-      joined (e.on xs) (e.on ys) (p.set e a xs x) (q.set e b ys y) (ap e.on f ∙ e.joins xs ys);
+      then_of_parts (e.on xs) (e.on ys) (p.set e a xs x) (q.set e b ys y)
+      (ap e.on f ∙ e.joins xs ys);
   value = λ cs front rest fits is f.
       let u = p.value cs is.first (is.second ++ rest) fits is.is_first
       (f ∙ ap (λ l. l ++ rest) is.joins ∙ append_assoc is.first is.second rest) in
@@ -162,14 +164,14 @@ shown_written p = record {
 
 -- ---- characters of ASCII
 
-pub low_written : {A O : Type 0} {P : List ℕ → Type 0} {text : Text ℕ O} → IsLow P
+pub low_written : {A O : Type 0} {P : List ℕ → Type 0} {text : Text ℕ O} → IsAscii P
     → ((o : O) (cs : List ℕ) → text o cs → P cs) → ((cs : List ℕ) → P cs → (o : O) × text o cs)
     → Written A P text
 low_written {P = P} low set value = record {
   set = λ e o cs x.
       let is = set o cs x in subst P (sym (low_on e cs (low.each cs is))) is;
   value = λ cs front rest fits is f.
-      let (es, g, h) = low_front front cs rest (low.each front is) f in
+      let (es, g, h) = ascii_prefix front cs rest (low.each front is) f in
       let (o, x) = value front is in encoded front es o x g h;
 }
 
@@ -177,14 +179,14 @@ pub one_written : {A : Type 0} (c : ℕ) → c < 128 → Written A (IsByte (λ b
 unfolding Spelled
 one_written c low =
     low_written (byte_in (λ b. b ≡ c) (λ b e. omega (arith, e, low)))
-    (λ o cs (is, e). one refl e)
+    (λ o cs (is, e). one_byte_text refl e)
     (λ cs is. (c, (refl, is.alone ∙ ap (λ b. b ∷ []) is.is_byte)))
 
 pub in_written : {A : Type 0} (P : ℕ → Type 0) → ((b : ℕ) → P b → b < 128)
     → Written A (IsByte P) (In P)
 unfolding In
 in_written P low =
-    low_written (byte_in P low) (λ o cs (is, e). one is e)
+    low_written (byte_in P low) (λ o cs (is, e). one_byte_text is e)
     (λ cs is. (is.byte, (is.is_byte, is.alone)))
 
 -- of a set of which another has the same members
@@ -220,4 +222,5 @@ run_one_written P low =
     some : (cs : List ℕ) → All P cs → 1 ≤ length cs → Then (IsByte P) (All P) cs
     some [] all enough = absurd (omega (arith, enough))
     some (c ∷ cs) all enough =
-        joined (c ∷ []) cs (one (All-head P c cs all) refl) (All-tail P c cs all) refl
+        then_of_parts (c ∷ []) cs (one_byte_text (All-head P c cs all) refl)
+        (All-tail P c cs all) refl

@@ -2,9 +2,9 @@
 use Rattle.std.specs.Prelude.{◌≡◌, ◌⊎◌, ℕ, Bool, true, false, List, ◌∷◌, ◌++◌}
 use Rattle.format_json_extents.specs.Names.{IsCompared}
 use Rattle.format_json_extents.specs.Strings.{IsString}
-use Rattle.format_json_extents.specs.Texts.{IsByte, NoneStands, Then}
-use Rattle.format_json_extents.specs.Value.{IsValue, opening}
-use Rattle.format_json_extents.specs.Walk.{EndsItems, IsLead, IsNext}
+use Rattle.format_json_extents.specs.Texts.{IsByte, NoMatchAtStart, Then}
+use Rattle.format_json_extents.specs.Value.{IsValue, opening_bracket}
+use Rattle.format_json_extents.specs.Walk.{EndsItems, IsNextValue, IsSeparator}
 use Rattle.format_json_extents.specs.declared.members.Search.{Search}
 use Rattle.format_json_extents.specs.declared.members.Search.TheVariants as searches
 
@@ -13,7 +13,7 @@ use Rattle.format_json_extents.specs.declared.members.Search.TheVariants as sear
 pub record HasName (same : Bool) (name bytes rest : List ℕ) : Type 0 where
   pub lead : List ℕ
   pub start : List ℕ
-  pub is_lead : IsLead lead
+  pub is_lead : IsSeparator lead
   pub splits : bytes ≡ lead ++ start
   pub is_compared : IsCompared same name start rest
 
@@ -22,16 +22,16 @@ pub record HasName (same : Bool) (name bytes rest : List ℕ) : Type 0 where
 pub data PassesMembers (level : ℕ) (name : List ℕ) : List ℕ → List ℕ → Type 0 where
   passes_none : (bytes rest : List ℕ) → bytes ≡ rest → PassesMembers level name bytes rest
   passes_one : (bytes after value next rest : List ℕ) → HasName false name bytes after
-      → IsNext level value after next → PassesMembers level name next rest
+      → IsNextValue level value after next → PassesMembers level name next rest
       → PassesMembers level name bytes rest
 
 -- `NoMember level name bytes`: after an optional separator, `bytes` does not start with a string;
 -- or the string is another name, and no value follows it.
 abbrev pub NoMember : ℕ → List ℕ → List ℕ → Type 0
 NoMember level name bytes =
-    NoneStands (Then IsLead IsString) bytes
+    NoMatchAtStart (Then IsSeparator IsString) bytes
     ⊎ ((after : List ℕ) × HasName false name bytes after
-    × NoneStands (Then IsLead (IsValue level)) after)
+    × NoMatchAtStart (Then IsSeparator (IsValue level)) after)
 
 -- `IsSearched search level name inside rest`: the result of a search in the members `inside`.
 -- `rest` follows the name that was found, or it follows the last member, or no member starts there.
@@ -47,11 +47,11 @@ IsSearched searches.Invalid level name inside rest =
 -- `inside`.
 abbrev pub InObject : List ℕ → List ℕ → Type 0
 InObject bytes inside =
-    (lead : List ℕ) × IsLead lead × (bytes ≡ lead ++ opening true ∷ inside)
+    (lead : List ℕ) × IsSeparator lead × (bytes ≡ lead ++ opening_bracket true ∷ inside)
 
 -- an opening brace
 abbrev pub IsBrace : ℕ → Type 0
-IsBrace b = b ≡ opening true
+IsBrace b = b ≡ opening_bracket true
 
 -- `IsSearchOf search level name bytes rest`: the same in the object that `bytes` starts with. If
 -- there is none, the search is invalid, and `rest` is `bytes`.
@@ -59,4 +59,4 @@ abbrev pub IsSearchOf : Search → ℕ → List ℕ → List ℕ → List ℕ �
 IsSearchOf search level name bytes rest =
     ((inside : List ℕ) × InObject bytes inside × IsSearched search level name inside rest)
     ⊎ ((search ≡ searches.Invalid) × (rest ≡ bytes)
-    × NoneStands (Then IsLead (IsByte IsBrace)) bytes)
+    × NoMatchAtStart (Then IsSeparator (IsByte IsBrace)) bytes)

@@ -11,20 +11,20 @@ token_text true [] = 126 ∷ []
 token_text true (b ∷ more) = (if b == 49 then 47 else 126) ∷ token_text false more
 
 -- the text of a name: itself, or that of a reference token
-abbrev pub said : Bool → List ℕ → List ℕ
-said true name = token_text false name
-said false name = name
+abbrev pub name_text : Bool → List ℕ → List ℕ
+name_text true name = token_text false name
+name_text false name = name
 
 -- `Remains token whole meant same left`: if `same` holds, `whole` is `meant` followed by the text
 -- of `left`. Otherwise `whole` does not start with `meant`.
 pub record Remains (token : Bool) (whole meant : List ℕ) (same : Bool) (left : List ℕ)
     : Type 0 where
-  pub yes : same ≡ true → whole ≡ meant ++ said token left
+  pub yes : same ≡ true → whole ≡ meant ++ name_text token left
   pub no : same ≡ false → (more : List ℕ) → whole ≡ meant ++ more → ⊥
 
--- `IsWhole same whole meant`: `same` is whether `meant` is `whole`.
-abbrev pub IsWhole : Bool → List ℕ → List ℕ → Type 0
-IsWhole same whole meant = (same ≡ true → meant ≡ whole) × (same ≡ false → meant ≡ whole → ⊥)
+-- `IsEqualIf same whole meant`: `same` is whether `meant` is `whole`.
+abbrev pub IsEqualIf : Bool → List ℕ → List ℕ → Type 0
+IsEqualIf same whole meant = (same ≡ true → meant ≡ whole) × (same ≡ false → meant ≡ whole → ⊥)
 
 -- `IsTailCompared same name bytes rest`: `bytes` has pieces, a quote and then `rest`, and `same` is
 -- whether the pieces denote `name`.
@@ -33,7 +33,7 @@ pub record IsTailCompared (same : Bool) (name bytes rest : List ℕ) : Type 0 wh
   pub meant : List ℕ
   pub means : Means text meant
   pub splits : bytes ≡ text ++ 34 ∷ rest
-  pub is_whole : IsWhole same name meant
+  pub is_whole : IsEqualIf same name meant
 
 -- `IsCompared same name bytes rest`: `bytes` starts with a string, followed by `rest`, and `same`
 -- is whether the text of the string is `name`.

@@ -3,7 +3,7 @@ use Rattle.std.specs.Prelude.{◌++◌, ◌+◌, ◌∷◌, ◌≡◌, ◌⊎◌
 use Rattle.std.specs.Prelude.{take, true, zero}
 use Rattle.format_json_extents.specs.Number.{IsNumber}
 use Rattle.format_json_extents.specs.Strings.{IsString}
-use Rattle.format_json_extents.specs.Value.{IsGap, Only, closing, opening}
+use Rattle.format_json_extents.specs.Value.{Exactly, IsWhitespace, closing_bracket, opening_bracket}
 use Rattle.format_json_extents.specs.declared.node.JsonNode.{JsonNode}
 
 -- the node of `text` at the offset `from` of the whole text. The node of index `next` follows it
@@ -20,9 +20,9 @@ nested_kind false = 5
 -- A value without nested values, of this kind.
 abbrev pub IsScalarOf : ℕ → List ℕ → Type 0
 IsScalarOf kind text =
-    ((kind ≡ 0) × Only (110 ∷ 117 ∷ 108 ∷ 108 ∷ []) text)
-    ⊎ (((kind ≡ 1) × Only (102 ∷ 97 ∷ 108 ∷ 115 ∷ 101 ∷ []) text)
-    ⊎ (((kind ≡ 2) × Only (116 ∷ 114 ∷ 117 ∷ 101 ∷ []) text)
+    ((kind ≡ 0) × Exactly (110 ∷ 117 ∷ 108 ∷ 108 ∷ []) text)
+    ⊎ (((kind ≡ 1) × Exactly (102 ∷ 97 ∷ 108 ∷ 115 ∷ 101 ∷ []) text)
+    ⊎ (((kind ≡ 2) × Exactly (116 ∷ 114 ∷ 117 ∷ 101 ∷ []) text)
     ⊎ (((kind ≡ 3) × IsNumber text) ⊎ ((kind ≡ 4) × IsString text))))
 
 -- `NodesAt`: the nodes of a text that is at the offset `from` of the whole text. The first of them
@@ -42,9 +42,9 @@ pub record ElementNodes (V : NodesAt) (from index : ℕ) (nodes : List JsonNode)
   pub before : List ℕ
   pub value : List ℕ
   pub after : List ℕ
-  pub is_before : IsGap before
+  pub is_before : IsWhitespace before
   pub is_value : V (from + length before) index nodes value
-  pub is_after : IsGap after
+  pub is_after : IsWhitespace after
   pub joins : text ≡ before ++ (value ++ after)
 
 -- A name with whitespace around it, a colon and a value: the node of the name, and the nodes of
@@ -56,9 +56,9 @@ pub record MemberNodes (V : NodesAt) (from index : ℕ) (nodes : List JsonNode) 
   pub after : List ℕ
   pub element : List ℕ
   pub others : List JsonNode
-  pub is_before : IsGap before
+  pub is_before : IsWhitespace before
   pub is_name : IsString name
-  pub is_after : IsGap after
+  pub is_after : IsWhitespace after
   pub is_element : ElementNodes V (from + length (before ++ (name ++ after)) + 1) (index + 1)
       others element
   pub joins : text ≡ (before ++ (name ++ after)) ++ 58 ∷ element
@@ -83,9 +83,9 @@ pub record NestedNodes (keyed : Bool) (V : NodesAt) (from index : ℕ) (nodes : 
     (text : List ℕ) : Type 0 where
   pub inner : List JsonNode
   pub inside : List ℕ
-  pub is_inside : (IsGap inside × (inner ≡ []))
+  pub is_inside : (IsWhitespace inside × (inner ≡ []))
       ⊎ ListNodes (ItemNodes keyed V) (from + 1) (index + 1) inner inside
-  pub joins : text ≡ opening keyed ∷ (inside ++ closing keyed ∷ [])
+  pub joins : text ≡ opening_bracket keyed ∷ (inside ++ closing_bracket keyed ∷ [])
   pub in_order : nodes ≡ node (nested_kind keyed) from text (index + 1 + length inner) ∷ inner
 
 -- A value whose arrays and objects are nested at most `level` deep.

@@ -20,42 +20,42 @@ abbrev pub IsZero : ℕ → Type 0
 IsZero b = b ≡ 48
 
 -- a digit from 1 to 9
-abbrev pub IsLeading : ℕ → Type 0
-IsLeading b = (49 ≤ b) × (b ≤ 57)
+abbrev pub IsNonzeroDigit : ℕ → Type 0
+IsNonzeroDigit b = (49 ≤ b) × (b ≤ 57)
 
 -- the point
-abbrev pub IsPoint : ℕ → Type 0
-IsPoint b = b ≡ 46
+abbrev pub IsDecimalPoint : ℕ → Type 0
+IsDecimalPoint b = b ≡ 46
 
 -- the letter E or e
-abbrev pub IsE : ℕ → Type 0
-IsE b = (b ≡ 69) ⊎ (b ≡ 101)
+abbrev pub IsExponentLetter : ℕ → Type 0
+IsExponentLetter b = (b ≡ 69) ⊎ (b ≡ 101)
 
 -- a plus or a minus
 abbrev pub IsSign : ℕ → Type 0
 IsSign b = (b ≡ 43) ⊎ (b ≡ 45)
 
 -- Digits with no zero before others.
-abbrev pub IsWhole : List ℕ → Type 0
-IsWhole = Either (IsByte IsZero) (Then (IsByte IsLeading) (All IsDigit))
+abbrev pub IsIntegerPart : List ℕ → Type 0
+IsIntegerPart = Either (IsByte IsZero) (Then (IsByte IsNonzeroDigit) (All IsDigit))
 
 -- a point and digits
 abbrev pub IsFraction : List ℕ → Type 0
-IsFraction = Then (IsByte IsPoint) IsDigits
+IsFraction = Then (IsByte IsDecimalPoint) IsDigits
 
 -- the letter E, a sign or none, and digits
 abbrev pub IsExponent : List ℕ → Type 0
-IsExponent = Then (IsByte IsE) (Then (Maybe (IsByte IsSign)) IsDigits)
+IsExponent = Then (IsByte IsExponentLetter) (Then (Maybe (IsByte IsSign)) IsDigits)
 
 -- a number
 abbrev pub IsNumber : List ℕ → Type 0
 IsNumber =
-    Then (Maybe (IsByte IsMinus)) (Then IsWhole (Then (Maybe IsFraction) (Maybe IsExponent)))
+    Then (Maybe (IsByte IsMinus)) (Then IsIntegerPart (Then (Maybe IsFraction) (Maybe IsExponent)))
 
 -- a byte of numbers: a digit, a point, an E or a sign
-abbrev pub IsNumeral : ℕ → Type 0
-IsNumeral b = IsDigit b ⊎ (IsPoint b ⊎ (IsE b ⊎ IsSign b))
+abbrev pub IsByteOfNumber : ℕ → Type 0
+IsByteOfNumber b = IsDigit b ⊎ (IsDecimalPoint b ⊎ (IsExponentLetter b ⊎ IsSign b))
 
 -- A byte that can extend a number to a longer one.
-abbrev pub IsNumberByte : ℕ → Type 0
-IsNumberByte b = IsDigit b ⊎ (IsPoint b ⊎ IsE b)
+abbrev pub ExtendsNumber : ℕ → Type 0
+ExtendsNumber b = IsDigit b ⊎ (IsDecimalPoint b ⊎ IsExponentLetter b)

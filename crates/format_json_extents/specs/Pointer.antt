@@ -3,11 +3,11 @@ use Rattle.std.specs.Prelude.{⊤, ◌≡◌, ◌↔◌, ◌⊎◌, ◌-◌, ℕ
 use Rattle.std.specs.Prelude.{◌++◌, Option, Some, None}
 use Rattle.std.specs.List.{All}
 use Rattle.format_json_extents.specs.Integer.{IsNatural}
-use Rattle.format_json_extents.specs.Names.{IsCompared, said}
+use Rattle.format_json_extents.specs.Names.{IsCompared, name_text}
 use Rattle.format_json_extents.specs.Number.{IsNumber}
 use Rattle.format_json_extents.specs.Texts.{MatchesAtStart, RestAfter}
-use Rattle.format_json_extents.specs.Value.{IsEmptyTail, IsGap, IsItem, IsName, IsNumberByteOf}
-use Rattle.format_json_extents.specs.Value.{IsValue, closing, opening}
+use Rattle.format_json_extents.specs.Value.{ExtendsNumberOf, IsEmptyTail, IsItem, IsName, IsValue}
+use Rattle.format_json_extents.specs.Value.{IsWhitespace, closing_bracket, opening_bracket}
 use Rattle.format_json_extents.specs.declared.pointer.Lookup.{Lookup}
 use Rattle.format_json_extents.specs.declared.pointer.Lookup.TheVariants as lookup
 
@@ -70,8 +70,8 @@ lower None = None
 -- token selects: the member of this name, or the element of index 0.
 abbrev pub IsSought : Bool → Bool → Option ℕ → List ℕ → List ℕ → Type 0
 IsSought true same index token bytes =
-    (gap name rest : List ℕ) × IsGap gap × (bytes ≡ gap ++ name)
-    × IsCompared same (said true token) name rest
+    (gap name rest : List ℕ) × IsWhitespace gap × (bytes ≡ gap ++ name)
+    × IsCompared same (name_text true token) name rest
 IsSought false same index token bytes = (same ≡ true) ↔ (index ≡ Some 0)
 
 -- `PassesItems keyed level index token inside at left`: from after the opening bracket, the items
@@ -94,8 +94,8 @@ pub record HasItem (keyed : Bool) (level : ℕ) (index : Option ℕ)
   pub passes : PassesItems keyed level index token inside at left
   pub is_sought : IsSought keyed true left token at
   pub is_name : MatchesAtStart (IsName keyed) at named
-  pub is_gap : MatchesAtStart IsGap named start
-  pub is_value : RestAfter (IsValue level) (IsNumberByteOf start) start rest
+  pub is_gap : MatchesAtStart IsWhitespace named start
+  pub is_value : RestAfter (IsValue level) (ExtendsNumberOf start) start rest
 
 -- `LacksItem keyed level index token inside`: there are no items, or none of them is selected.
 abbrev pub LacksItem : Bool → ℕ → Option ℕ → List ℕ → List ℕ → Type 0
@@ -103,7 +103,7 @@ LacksItem keyed level index token inside =
     ((rest : List ℕ) × MatchesAtStart (IsEmptyTail keyed) inside rest)
     ⊎ ((at rest : List ℕ) × (left : Option ℕ) × PassesItems keyed level index token inside at left
     × IsSought keyed false left token at
-    × MatchesAtStart (IsItem keyed (IsValue level)) at (closing keyed ∷ rest))
+    × MatchesAtStart (IsItem keyed (IsValue level)) at (closing_bracket keyed ∷ rest))
 
 -- `IsFoundItem found keyed level index token inside start rest`: `found` is whether an item is
 -- selected.
@@ -120,7 +120,7 @@ IsFoundItem false keyed level index token inside start rest =
 pub record IsContainer (keyed : Bool) (level : ℕ) (token value : List ℕ) (inner : ℕ)
     (index : Option ℕ) (inside : List ℕ) : Type 0 where
   pub is_deep : level ≡ suc inner
-  pub opens : value ≡ opening keyed ∷ inside
+  pub opens : value ≡ opening_bracket keyed ∷ inside
   pub is_index : IsIndexFor keyed token index
 
 -- `LacksChild keyed level token value`: `value` starts with an object (`true`) or an array without
@@ -141,14 +141,14 @@ IsChild lookup.Found level token value start rest =
 IsChild lookup.NoMember level token value start rest = LacksChild true level token value
 IsChild lookup.NoElement level token value start rest = LacksChild false level token value
 IsChild lookup.NotAContainer level token value start rest =
-    (keyed : Bool) (more : List ℕ) → value ≡ opening keyed ∷ more → ⊥
+    (keyed : Bool) (more : List ℕ) → value ≡ opening_bracket keyed ∷ more → ⊥
 
 -- `Reaches level text pointer depth here rest tokens`: the pointer without `tokens` identifies the
 -- value at `here`, nested at most `depth` deep, which `rest` follows.
 pub data Reaches (level : ℕ) (text pointer : List ℕ)
     : ℕ → List ℕ → List ℕ → List ℕ → Type 0 where
-  reaches_root : (here rest : List ℕ) → MatchesAtStart IsGap text here
-      → RestAfter (IsValue level) (IsNumberByteOf here) here rest
+  reaches_root : (here rest : List ℕ) → MatchesAtStart IsWhitespace text here
+      → RestAfter (IsValue level) (ExtendsNumberOf here) here rest
       → Reaches level text pointer level here rest pointer
   reaches_child : (depth : ℕ) (here rest more token after start end : List ℕ)
       → Reaches level text pointer (suc depth) here rest (47 ∷ more) → IsTokenOf token more after

@@ -4,8 +4,9 @@ use Rattle.format_json_extents.specs.Number.{IsNumber}
 use Rattle.format_json_extents.specs.Steps.{IsNextStep, IsToken}
 use Rattle.format_json_extents.specs.Strings.{IsString}
 use Rattle.format_json_extents.specs.Texts.{IsByte, MatchesAtStart, Then}
-use Rattle.format_json_extents.specs.Value.{IsColon, IsElement, IsGap, Only, closing, opening}
-use Rattle.format_json_extents.specs.Walk.{IsLead}
+use Rattle.format_json_extents.specs.Value.{Exactly, IsColon, IsElement, IsWhitespace}
+use Rattle.format_json_extents.specs.Value.{closing_bracket, opening_bracket}
+use Rattle.format_json_extents.specs.Walk.{IsSeparator}
 use Rattle.format_json_extents.specs.declared.steps.Step.{Step}
 use Rattle.format_json_extents.specs.declared.steps.Step.TheVariants as steps
 
@@ -15,9 +16,9 @@ StepList = List (Step × List ℕ)
 
 -- A value that has no others in it, by what it is.
 abbrev pub IsScalarOf : Step → List ℕ → Type 0
-IsScalarOf steps.Null text = Only (110 ∷ 117 ∷ 108 ∷ 108 ∷ []) text
-IsScalarOf steps.False text = Only (102 ∷ 97 ∷ 108 ∷ 115 ∷ 101 ∷ []) text
-IsScalarOf steps.True text = Only (116 ∷ 114 ∷ 117 ∷ 101 ∷ []) text
+IsScalarOf steps.Null text = Exactly (110 ∷ 117 ∷ 108 ∷ 108 ∷ []) text
+IsScalarOf steps.False text = Exactly (102 ∷ 97 ∷ 108 ∷ 115 ∷ 101 ∷ []) text
+IsScalarOf steps.True text = Exactly (116 ∷ 114 ∷ 117 ∷ 101 ∷ []) text
 IsScalarOf steps.Number text = IsNumber text
 IsScalarOf steps.String text = IsString text
 IsScalarOf step text = ⊥
@@ -47,7 +48,8 @@ pub record StepsOfMember (V : StepList → List ℕ → Type 0) (told : StepList
   pub name : List ℕ
   pub others : StepList
   pub is_name : IsString name
-  pub is_member : Then (Then IsGap (Then (Only name) (Then IsGap (IsByte IsColon))))
+  pub is_member : Then
+      (Then IsWhitespace (Then (Exactly name) (Then IsWhitespace (IsByte IsColon))))
       (IsElement (V others)) text
   pub in_turn : told ≡ (steps.Name, name) ∷ others
 
@@ -69,10 +71,11 @@ pub record StepsOfNested (keyed : Bool) (V : StepList → List ℕ → Type 0) (
     : Type 0 where
   pub inner : StepList
   pub inside : List ℕ
-  pub is_inside : (IsGap inside × (inner ≡ [])) ⊎ StepsOfList (StepsOfItem keyed V) inner inside
-  pub joins : text ≡ opening keyed ∷ (inside ++ closing keyed ∷ [])
-  pub in_turn : told ≡ (begin_of keyed, opening keyed ∷ [])
-      ∷ (inner ++ (end_of keyed, closing keyed ∷ []) ∷ [])
+  pub is_inside : (IsWhitespace inside × (inner ≡ []))
+      ⊎ StepsOfList (StepsOfItem keyed V) inner inside
+  pub joins : text ≡ opening_bracket keyed ∷ (inside ++ closing_bracket keyed ∷ [])
+  pub in_turn : told ≡ (begin_of keyed, opening_bracket keyed ∷ [])
+      ∷ (inner ++ (end_of keyed, closing_bracket keyed ∷ []) ∷ [])
 
 -- A value whose arrays and objects are nested at most `level` deep.
 abbrev pub StepsOfValue : ℕ → StepList → List ℕ → Type 0
@@ -98,6 +101,6 @@ InTurn bytes (it ∷ told) rest =
 -- a proper prefix of `told`, and `rest` has one more step.
 abbrev pub StepsResult : StepList → StepList → List ℕ → Type 0
 StepsResult told found rest =
-    ((found ≡ told) × IsGap rest)
+    ((found ≡ told) × IsWhitespace rest)
     ⊎ ((it : Step × List ℕ) × (others : StepList) × (told ≡ found ++ it ∷ others)
-    × ((after : List ℕ) × MatchesAtStart (Then IsLead IsToken) rest after))
+    × ((after : List ℕ) × MatchesAtStart (Then IsSeparator IsToken) rest after))

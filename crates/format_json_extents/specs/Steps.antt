@@ -1,11 +1,11 @@
 -- The steps of a JSON text, from its start to its end.
 use Rattle.std.specs.Prelude.{◌≡◌, ◌⊎◌, ℕ, List, [], ◌∷◌, ◌++◌}
-use Rattle.format_json_extents.specs.Number.{IsNumber, IsNumberByte}
+use Rattle.format_json_extents.specs.Number.{ExtendsNumber, IsNumber}
 use Rattle.format_json_extents.specs.Strings.{IsString}
 use Rattle.format_json_extents.specs.Texts.{Either, IsByte, IsLongerRest, IsLongest, MatchesAtStart}
 use Rattle.format_json_extents.specs.Texts.{Then}
-use Rattle.format_json_extents.specs.Value.{IsColon, IsGap, IsScalar, Only}
-use Rattle.format_json_extents.specs.Walk.{IsClosingByte, IsLead}
+use Rattle.format_json_extents.specs.Value.{Exactly, IsColon, IsScalar, IsWhitespace}
+use Rattle.format_json_extents.specs.Walk.{IsClosingByte, IsSeparator}
 use Rattle.format_json_extents.specs.declared.steps.Step.{Step}
 use Rattle.format_json_extents.specs.declared.steps.Step.TheVariants as steps
 
@@ -19,13 +19,14 @@ IsToken = Either (IsByte IsBracket) IsScalar
 
 -- `IsBeforeColon bytes`: `bytes` starts with whitespace and a colon.
 abbrev pub IsBeforeColon : List ℕ → Type 0
-IsBeforeColon bytes = (rest : List ℕ) × MatchesAtStart (Then IsGap (IsByte IsColon)) bytes rest
+IsBeforeColon bytes =
+    (rest : List ℕ) × MatchesAtStart (Then IsWhitespace (IsByte IsColon)) bytes rest
 
 -- `IsOfStep step text rest`: `text` is of kind `step`, and `rest` follows it.
 abbrev pub IsOfStep : Step → List ℕ → List ℕ → Type 0
-IsOfStep steps.Null text rest = Only (110 ∷ 117 ∷ 108 ∷ 108 ∷ []) text
-IsOfStep steps.False text rest = Only (102 ∷ 97 ∷ 108 ∷ 115 ∷ 101 ∷ []) text
-IsOfStep steps.True text rest = Only (116 ∷ 114 ∷ 117 ∷ 101 ∷ []) text
+IsOfStep steps.Null text rest = Exactly (110 ∷ 117 ∷ 108 ∷ 108 ∷ []) text
+IsOfStep steps.False text rest = Exactly (102 ∷ 97 ∷ 108 ∷ 115 ∷ 101 ∷ []) text
+IsOfStep steps.True text rest = Exactly (116 ∷ 114 ∷ 117 ∷ 101 ∷ []) text
 IsOfStep steps.Number text rest = IsNumber text
 IsOfStep steps.String text rest = IsString text × (IsBeforeColon rest → ⊥)
 IsOfStep steps.Name text rest = IsString text × IsBeforeColon rest
@@ -40,9 +41,9 @@ IsOfStep steps.EndObject text rest = text ≡ 125 ∷ []
 pub record IsNextStep (step : Step) (text bytes rest : List ℕ) : Type 0 where
   pub lead : List ℕ
   pub start : List ℕ
-  pub is_lead : IsLead lead
+  pub is_lead : IsSeparator lead
   pub splits : bytes ≡ lead ++ start
   pub longest : IsLongest IsToken text start rest
   pub others : (other : List ℕ) → MatchesAtStart IsToken start other
-      → (other ≡ rest) ⊎ IsLongerRest IsNumberByte other rest
+      → (other ≡ rest) ⊎ IsLongerRest ExtendsNumber other rest
   pub is_step : IsOfStep step text rest

@@ -1,6 +1,6 @@
 -- Strings of JSON (RFC 8259, section 7).
 use Rattle.std.specs.Prelude.{◌≡◌, ◌≤◌, ◌⊎◌, ℕ, List, ◌∷◌, ◌++◌}
-use Rattle.format_json_extents.specs.Texts.{AreTwo, Either, IsByte, Many, Then}
+use Rattle.format_json_extents.specs.Texts.{AreTwoBytes, Either, IsByte, Many, Then}
 use Rattle.format_json_extents.specs.declared.string.Unit.{Unit}
 use Rattle.format_json_extents.specs.declared.string.Unit.TheVariants as units
 
@@ -22,57 +22,57 @@ IsEscaped b = (b ≡ 34) ⊎ ((b ≡ 92) ⊎ ((b ≡ 47) ⊎ ((b ≡ 98) ⊎ ((b
     ⊎ ((b ≡ 114) ⊎ (b ≡ 116)))))))
 
 -- the letter u
-abbrev pub IsU : ℕ → Type 0
-IsU b = b ≡ 117
+abbrev pub IsLetterU : ℕ → Type 0
+IsLetterU b = b ≡ 117
 
 -- A hexadecimal digit: 0 to 9, A to F, a to f.
 abbrev pub IsHexDigit : ℕ → Type 0
 IsHexDigit b = ((48 ≤ b) × (b ≤ 57)) ⊎ (((65 ≤ b) × (b ≤ 70)) ⊎ ((97 ≤ b) × (b ≤ 102)))
 
 -- two hexadecimal digits
-abbrev pub IsTwoDigits : List ℕ → Type 0
-IsTwoDigits = Then (IsByte IsHexDigit) (IsByte IsHexDigit)
+abbrev pub IsTwoHexDigits : List ℕ → Type 0
+IsTwoHexDigits = Then (IsByte IsHexDigit) (IsByte IsHexDigit)
 
 -- the digit D, with which a surrogate begins
-abbrev pub IsD : ℕ → Type 0
-IsD b = (b ≡ 68) ⊎ (b ≡ 100)
+abbrev pub IsHexDigitD : ℕ → Type 0
+IsHexDigitD b = (b ≡ 68) ⊎ (b ≡ 100)
 
 -- The first two digits of a unit that is not a surrogate: from 0x00 to 0xD7, or from 0xE0 to 0xFF.
-abbrev pub BeginOnly : ℕ → ℕ → Type 0
-BeginOnly a b = IsHexDigit a × IsHexDigit b × (IsD a → b ≤ 55)
+abbrev pub BeginNonSurrogate : ℕ → ℕ → Type 0
+BeginNonSurrogate a b = IsHexDigit a × IsHexDigit b × (IsHexDigitD a → b ≤ 55)
 
 -- The first two digits of a high surrogate: from 0xD8 to 0xDB.
-abbrev pub BeginHigh : ℕ → ℕ → Type 0
-BeginHigh a b =
-    IsD a × (((56 ≤ b) × (b ≤ 57)) ⊎ (((65 ≤ b) × (b ≤ 66)) ⊎ ((97 ≤ b) × (b ≤ 98))))
+abbrev pub BeginHighSurrogate : ℕ → ℕ → Type 0
+BeginHighSurrogate a b =
+    IsHexDigitD a × (((56 ≤ b) × (b ≤ 57)) ⊎ (((65 ≤ b) × (b ≤ 66)) ⊎ ((97 ≤ b) × (b ≤ 98))))
 
 -- The first two digits of a low surrogate: DC to DF.
-abbrev pub BeginLow : ℕ → ℕ → Type 0
-BeginLow a b = IsD a × (((67 ≤ b) × (b ≤ 70)) ⊎ ((99 ≤ b) × (b ≤ 102)))
+abbrev pub BeginLowSurrogate : ℕ → ℕ → Type 0
+BeginLowSurrogate a b = IsHexDigitD a × (((67 ≤ b) × (b ≤ 70)) ⊎ ((99 ≤ b) × (b ≤ 102)))
 
 -- The first two digits of this unit.
-abbrev pub BeginUnit : Unit → ℕ → ℕ → Type 0
-BeginUnit units.Only = BeginOnly
-BeginUnit units.High = BeginHigh
-BeginUnit units.Low = BeginLow
+abbrev pub BeginCodeUnit : Unit → ℕ → ℕ → Type 0
+BeginCodeUnit units.Only = BeginNonSurrogate
+BeginCodeUnit units.High = BeginHighSurrogate
+BeginCodeUnit units.Low = BeginLowSurrogate
 
 -- A unit of UTF-16 in four hexadecimal digits, the first two in `P`.
-abbrev pub IsUnit : (ℕ → ℕ → Type 0) → List ℕ → Type 0
-IsUnit P = Then (AreTwo P) IsTwoDigits
+abbrev pub IsCodeUnit : (ℕ → ℕ → Type 0) → List ℕ → Type 0
+IsCodeUnit P = Then (AreTwoBytes P) IsTwoHexDigits
 
 -- A high surrogate, and a low one after a backslash and u.
-abbrev pub IsPair : List ℕ → Type 0
-IsPair =
-    Then (IsUnit BeginHigh)
-    (Then (IsByte IsBackslash) (Then (IsByte IsU) (IsUnit BeginLow)))
+abbrev pub IsSurrogatePair : List ℕ → Type 0
+IsSurrogatePair =
+    Then (IsCodeUnit BeginHighSurrogate)
+    (Then (IsByte IsBackslash) (Then (IsByte IsLetterU) (IsCodeUnit BeginLowSurrogate)))
 
 -- The digits of a character: those of its only unit, or of both.
-abbrev pub IsCharacter : List ℕ → Type 0
-IsCharacter = Either (IsUnit BeginOnly) IsPair
+abbrev pub IsCharacterCode : List ℕ → Type 0
+IsCharacterCode = Either (IsCodeUnit BeginNonSurrogate) IsSurrogatePair
 
 -- The bytes after a backslash: one byte, or `u` and the digits of a character.
 abbrev pub IsEscape : List ℕ → Type 0
-IsEscape = Either (IsByte IsEscaped) (Then (IsByte IsU) IsCharacter)
+IsEscape = Either (IsByte IsEscaped) (Then (IsByte IsLetterU) IsCharacterCode)
 
 -- An unescaped byte, or a backslash and the bytes that it escapes.
 abbrev pub IsPiece : List ℕ → Type 0

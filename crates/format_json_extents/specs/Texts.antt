@@ -11,7 +11,7 @@ pub record IsByte (P : ℕ → Type 0) (text : List ℕ) : Type 0 where
   pub alone : text ≡ byte ∷ []
 
 -- Two bytes of P.
-pub record AreTwo (P : ℕ → ℕ → Type 0) (text : List ℕ) : Type 0 where
+pub record AreTwoBytes (P : ℕ → ℕ → Type 0) (text : List ℕ) : Type 0 where
   pub one : ℕ
   pub two : ℕ
   pub are_bytes : P one two
@@ -40,10 +40,10 @@ pub data Many (P : List ℕ → Type 0) : List ℕ → Type 0 where
       → Many P text
 
 -- One or more texts in `P`, separated by commas.
-pub data List_of (P : List ℕ → Type 0) : List ℕ → Type 0 where
-  last : (text : List ℕ) → P text → List_of P text
-  before : (first others text : List ℕ) → P first → List_of P others
-      → text ≡ first ++ 44 ∷ others → List_of P text
+pub data CommaSeparated (P : List ℕ → Type 0) : List ℕ → Type 0 where
+  last : (text : List ℕ) → P text → CommaSeparated P text
+  before : (first others text : List ℕ) → P first → CommaSeparated P others
+      → text ≡ first ++ 44 ∷ others → CommaSeparated P text
 
 -- ---- texts at the start of bytes
 
@@ -53,9 +53,9 @@ pub record MatchesAtStart (P : List ℕ → Type 0) (bytes rest : List ℕ) : Ty
   pub is : P text
   pub splits : bytes ≡ text ++ rest
 
--- `NoneStands P bytes`: `bytes` does not start with a text in `P`.
-abbrev pub NoneStands : (List ℕ → Type 0) → List ℕ → Type 0
-NoneStands P bytes = (rest : List ℕ) → MatchesAtStart P bytes rest → ⊥
+-- `NoMatchAtStart P bytes`: `bytes` does not start with a text in `P`.
+abbrev pub NoMatchAtStart : (List ℕ → Type 0) → List ℕ → Type 0
+NoMatchAtStart P bytes = (rest : List ℕ) → MatchesAtStart P bytes rest → ⊥
 
 -- `IsLongerRest S more rest`: `more` is longer than `rest`, and starts with a byte of `S`.
 pub record IsLongerRest (S : ℕ → Type 0) (more rest : List ℕ) : Type 0 where
@@ -80,12 +80,12 @@ EndsAt P bytes count =
     × (length front ≡ count) × All P front × (P other → ⊥)
 
 -- A byte of S or of T.
-abbrev pub Or : (S T : ℕ → Type 0) → ℕ → Type 0
-Or S T b = S b ⊎ T b
+abbrev pub EitherByte : (S T : ℕ → Type 0) → ℕ → Type 0
+EitherByte S T b = S b ⊎ T b
 
 -- No byte.
-abbrev pub Never : ℕ → Type 0
-Never b = ⊥
+abbrev pub NoByte : ℕ → Type 0
+NoByte b = ⊥
 
 -- `IsLongest P text bytes rest`: `text` is the longest prefix of `bytes` in `P`, and `rest` follows
 -- it.

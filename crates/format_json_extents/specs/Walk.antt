@@ -2,29 +2,31 @@
 use Rattle.std.specs.Prelude.{⊤, ◌≡◌, ◌⊎◌, ℕ, suc, Bool, true, false, List, [], ◌∷◌, ◌++◌}
 use Rattle.format_json_extents.specs.Number.{IsNumber}
 use Rattle.format_json_extents.specs.Strings.{IsString}
-use Rattle.format_json_extents.specs.Texts.{IsByte, IsLongest, MatchesAtStart, Maybe, Or, Then}
-use Rattle.format_json_extents.specs.Value.{IsGap, IsNestedTail, IsSpace, IsValue, Only, opening}
+use Rattle.format_json_extents.specs.Texts.{EitherByte, IsByte, IsLongest, MatchesAtStart, Maybe}
+use Rattle.format_json_extents.specs.Texts.{Then}
+use Rattle.format_json_extents.specs.Value.{Exactly, IsNestedTail, IsValue, IsWhitespace}
+use Rattle.format_json_extents.specs.Value.{IsWhitespaceByte, opening_bracket}
 use Rattle.format_json_extents.specs.declared.walk.Kind.{Kind}
 use Rattle.format_json_extents.specs.declared.walk.Kind.TheVariants as kinds
 
 -- a comma or a colon
-abbrev pub IsMark : ℕ → Type 0
-IsMark b = (b ≡ 44) ⊎ (b ≡ 58)
+abbrev pub IsCommaOrColon : ℕ → Type 0
+IsCommaOrColon b = (b ≡ 44) ⊎ (b ≡ 58)
 
 -- The bytes before a value: whitespace, and at most one comma or colon followed by whitespace.
-abbrev pub IsLead : List ℕ → Type 0
-IsLead = Then IsGap (Maybe (Then (IsByte IsMark) IsGap))
+abbrev pub IsSeparator : List ℕ → Type 0
+IsSeparator = Then IsWhitespace (Maybe (Then (IsByte IsCommaOrColon) IsWhitespace))
 
 -- A byte that can follow a shorter prefix of this kind.
-abbrev pub IsLeadByte : ℕ → Type 0
-IsLeadByte = Or IsSpace (Or IsSpace IsMark)
+abbrev pub ExtendsSeparator : ℕ → Type 0
+ExtendsSeparator = EitherByte IsWhitespaceByte (EitherByte IsWhitespaceByte IsCommaOrColon)
 
--- `IsNext level text bytes rest`: after whitespace and at most one separator, `bytes` has `text`,
--- the longest value there, followed by `rest`.
-pub record IsNext (level : ℕ) (text bytes rest : List ℕ) : Type 0 where
+-- `IsNextValue level text bytes rest`: after whitespace and at most one separator, `bytes` has
+-- `text`, the longest value there, followed by `rest`.
+pub record IsNextValue (level : ℕ) (text bytes rest : List ℕ) : Type 0 where
   pub lead : List ℕ
   pub start : List ℕ
-  pub is_lead : IsLead lead
+  pub is_lead : IsSeparator lead
   pub splits : bytes ≡ lead ++ start
   pub longest : IsLongest (IsValue level) text start rest
 
@@ -39,19 +41,19 @@ StartsWithEnd (b ∷ more) = IsClosingByte b
 
 -- After whitespace, a closing bracket or the end follows.
 abbrev pub EndsItems : List ℕ → Type 0
-EndsItems bytes = (rest : List ℕ) × MatchesAtStart IsGap bytes rest × StartsWithEnd rest
+EndsItems bytes = (rest : List ℕ) × MatchesAtStart IsWhitespace bytes rest × StartsWithEnd rest
 
 -- An array or an object, of this many levels.
 abbrev pub IsNestedBy : Bool → ℕ → List ℕ → Type 0
 IsNestedBy keyed level text =
     (inner : ℕ) × (level ≡ suc inner)
-    × Then (IsByte (λ b. b ≡ opening keyed)) (IsNestedTail keyed (IsValue inner)) text
+    × Then (IsByte (λ b. b ≡ opening_bracket keyed)) (IsNestedTail keyed (IsValue inner)) text
 
 -- A value of this kind whose arrays and objects are nested at most `level` deep.
 abbrev pub IsOfKind : ℕ → Kind → List ℕ → Type 0
-IsOfKind level kinds.Null text = Only (110 ∷ 117 ∷ 108 ∷ 108 ∷ []) text
-IsOfKind level kinds.False text = Only (102 ∷ 97 ∷ 108 ∷ 115 ∷ 101 ∷ []) text
-IsOfKind level kinds.True text = Only (116 ∷ 114 ∷ 117 ∷ 101 ∷ []) text
+IsOfKind level kinds.Null text = Exactly (110 ∷ 117 ∷ 108 ∷ 108 ∷ []) text
+IsOfKind level kinds.False text = Exactly (102 ∷ 97 ∷ 108 ∷ 115 ∷ 101 ∷ []) text
+IsOfKind level kinds.True text = Exactly (116 ∷ 114 ∷ 117 ∷ 101 ∷ []) text
 IsOfKind level kinds.Number text = IsNumber text
 IsOfKind level kinds.String text = IsString text
 IsOfKind level kinds.Array text = IsNestedBy false level text

@@ -2,7 +2,7 @@
 
 ghost use Rattle.std.specs.Prelude.{◌≤◌, length};
 ghost use Rattle.format_json_extents.specs.Members.{IsSearchOf, IsSearched};
-ghost use Rattle.format_json_extents.specs.Names.{said};
+ghost use Rattle.format_json_extents.specs.Names.{name_text};
 
 use crate::names::compare;
 use crate::tokens::skip_byte;
@@ -21,7 +21,7 @@ pub enum Search {
 
 /// Finds the first member of a name from after the opening brace, as [`find_member`] does.
 fn find_inside<'i>(level: usize, token: bool, inside: &'i [u8], name: &[u8]) -> (Search, &'i [u8])
-    ensures search { IsSearched result.0 level (said token name.now) inside.now result.1.now }
+    ensures search { IsSearched result.0 level (name_text token name.now) inside.now result.1.now }
     ensures within { length result.1.now ≤ length inside.now }
 {
     let mut left = inside;
@@ -71,7 +71,7 @@ pub fn find_member<'i>(
     bytes: &'i [u8],
     name: &[u8],
 ) -> (Search, &'i [u8])
-    ensures search { IsSearchOf result.0 level (said token name.now) bytes.now result.1.now }
+    ensures search { IsSearchOf result.0 level (name_text token name.now) bytes.now result.1.now }
     ensures within { length result.1.now ≤ length bytes.now }
 {
     match skip_byte(b'{', skip_separator(bytes)) {

@@ -2,10 +2,10 @@
 
 ghost use Rattle.std.specs.Prelude.{◌≡◌, ◌∷◌, ◌++◌, [], List, ℕ, MatchOption};
 ghost use Rattle.std.specs.Char.{encode_utf8};
-ghost use Rattle.format_json_extents.specs.Names.{IsCompared, IsTailCompared, IsWhole, Remains};
-ghost use Rattle.format_json_extents.specs.Names.{said};
+ghost use Rattle.format_json_extents.specs.Names.{IsCompared, IsEqualIf, IsTailCompared, Remains};
+ghost use Rattle.format_json_extents.specs.Names.{name_text};
 ghost use Rattle.format_json_extents.specs.Strings.{IsEscape, IsString, IsStringTail};
-ghost use Rattle.format_json_extents.specs.Texts.{NoneStands};
+ghost use Rattle.format_json_extents.specs.Texts.{NoMatchAtStart};
 ghost use Rattle.format_json_texts.specs.Strings.{EscapeText};
 
 use crate::string::skip_escape;
@@ -15,8 +15,8 @@ use crate::unescape::character;
 /// Returns the first byte of a name, and the rest of it. In a reference token (`token`) of a JSON
 /// pointer, `~0` is a tilde and `~1` a slash.
 fn next_byte<'n>(token: bool, name: &'n [u8]) -> Option<(u8, &'n [u8])>
-    ensures { MatchOption result (said token name.now ≡ [])
-        (λ r. said token name.now ≡ r.0 ∷ said token r.1.now) }
+    ensures { MatchOption result (name_text token name.now ≡ [])
+        (λ r. name_text token name.now ≡ r.0 ∷ name_text token r.1.now) }
 {
     let (first, more) = name.split_first()?;
     if !token || *first != b'~' {
@@ -72,7 +72,7 @@ fn strip_escape<'n>(token: bool, same: bool, name: &'n [u8], escape: &[u8]) -> (
 /// Whether a name was the same up to its end.
 fn is_whole(token: bool, same: bool, left: &[u8]) -> bool
     ensures { (whole meant : List ℕ) → Remains token whole meant same left.now
-        → IsWhole result whole meant }
+        → IsEqualIf result whole meant }
 {
     match next_byte(token, left) {
         Some(_) => false,
@@ -83,8 +83,8 @@ fn is_whole(token: bool, same: bool, left: &[u8]) -> bool
 /// Compares the text of a string with a name from after the first quote. Returns whether they are
 /// equal, and the bytes after the last quote.
 fn compare_tail<'i>(token: bool, bytes: &'i [u8], name: &[u8]) -> Option<(bool, &'i [u8])>
-    ensures { MatchOption result (NoneStands IsStringTail bytes.now)
-        (λ r. IsTailCompared r.0 (said token name.now) bytes.now r.1.now) }
+    ensures { MatchOption result (NoMatchAtStart IsStringTail bytes.now)
+        (λ r. IsTailCompared r.0 (name_text token name.now) bytes.now r.1.now) }
 {
     let mut rest = bytes;
     let mut left = name;
@@ -122,8 +122,8 @@ fn compare_tail<'i>(token: bool, bytes: &'i [u8], name: &[u8]) -> Option<(bool, 
 /// assert!(rt; compare(false, b"role", b"role").is_none());
 /// ```
 pub fn compare<'i>(token: bool, bytes: &'i [u8], name: &[u8]) -> Option<(bool, &'i [u8])>
-    ensures { MatchOption result (NoneStands IsString bytes.now)
-        (λ r. IsCompared r.0 (said token name.now) bytes.now r.1.now) }
+    ensures { MatchOption result (NoMatchAtStart IsString bytes.now)
+        (λ r. IsCompared r.0 (name_text token name.now) bytes.now r.1.now) }
 {
     compare_tail(token, skip_byte(b'"', bytes)?, name)
 }

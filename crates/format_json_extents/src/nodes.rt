@@ -3,12 +3,13 @@
 ghost use Rattle.std.specs.Prelude.{◌≡◌, ◌≤◌, ◌+◌, ◌++◌, List, ℕ, IfSome, MatchOption, length, set};
 ghost use Rattle.std.specs.Str.{IsUtf8};
 ghost use Rattle.format_json_extents.specs.Standard.{IsTextByStandard};
-ghost use Rattle.format_json_extents.specs.Texts.{Never, NoneStands, RestAfter};
-ghost use Rattle.format_json_extents.specs.Value.{IsItemsTail, IsName, IsNestedTail};
-ghost use Rattle.format_json_extents.specs.Value.{IsNumberByteOf, IsScalar, IsText, IsValue};
+ghost use Rattle.format_json_extents.specs.Texts.{NoByte, NoMatchAtStart, RestAfter};
+ghost use Rattle.format_json_extents.specs.Value.{ExtendsNumberOf, IsItemsTail, IsName};
+ghost use Rattle.format_json_extents.specs.Value.{IsNestedTail, IsScalar, IsText, IsValue};
 ghost use Rattle.format_json_extents.specs.Nodes.{HasNodes, IsScalarOf, ScalarNodes, ValueNodes};
 ghost use Rattle.format_json_extents.specs.Nodes.{nested_kind};
-ghost use Rattle.format_json_extents.specs.NodeWriting.{ItemsNodes, TailNodes, Writes, WritesKey};
+ghost use Rattle.format_json_extents.specs.NodeWriting.{ItemsNodes, TailNodes, WritesKey};
+ghost use Rattle.format_json_extents.specs.NodeWriting.{WritesNodes};
 
 use crate::node::{
     JSON_ARRAY, JSON_FALSE, JSON_NAME, JSON_NULL, JSON_NUMBER, JSON_OBJECT, JSON_STRING, JSON_TRUE,
@@ -61,9 +62,9 @@ fn put_scalar<'i>(
     nodes: &mut [JsonNode],
 ) -> Option<(usize, &'i [u8])>
     requires { index + length bytes.now ≤ size }
-    ensures rest { MatchOption result (NoneStands IsScalar bytes.now)
-        (λ r. RestAfter IsScalar (IsNumberByteOf bytes.now) bytes.now r.1.now) }
-    ensures nodes { IfSome result (λ r. Writes ScalarNodes size index bytes.now r.1.now r.0
+    ensures rest { MatchOption result (NoMatchAtStart IsScalar bytes.now)
+        (λ r. RestAfter IsScalar (ExtendsNumberOf bytes.now) bytes.now r.1.now) }
+    ensures nodes { IfSome result (λ r. WritesNodes ScalarNodes size index bytes.now r.1.now r.0
         nodes.old nodes.new) }
 {
     let rest = skip_scalar(bytes)?;
@@ -88,8 +89,8 @@ fn put_name<'i>(
     nodes: &mut [JsonNode],
 ) -> Option<(usize, &'i [u8])>
     requires { index + length bytes.now ≤ size }
-    ensures rest { MatchOption result (NoneStands (IsName keyed) bytes.now)
-        (λ r. RestAfter (IsName keyed) Never bytes.now r.1.now) }
+    ensures rest { MatchOption result (NoMatchAtStart (IsName keyed) bytes.now)
+        (λ r. RestAfter (IsName keyed) NoByte bytes.now r.1.now) }
     ensures nodes { IfSome result (λ r. WritesKey keyed size index bytes.now r.1.now r.0
         nodes.old nodes.new) }
 {
@@ -123,9 +124,9 @@ fn put_items<'i>(
     nodes: &mut [JsonNode],
 ) -> Option<(usize, &'i [u8])>
     requires { index + length bytes.now ≤ size }
-    ensures rest { MatchOption result (NoneStands (IsItemsTail keyed (IsValue level)) bytes.now)
-        (λ r. RestAfter (IsItemsTail keyed (IsValue level)) Never bytes.now r.1.now) }
-    ensures nodes { IfSome result (λ r. Writes (ItemsNodes keyed (ValueNodes level)) size index
+    ensures rest { MatchOption result (NoMatchAtStart (IsItemsTail keyed (IsValue level)) bytes.now)
+        (λ r. RestAfter (IsItemsTail keyed (IsValue level)) NoByte bytes.now r.1.now) }
+    ensures nodes { IfSome result (λ r. WritesNodes (ItemsNodes keyed (ValueNodes level)) size index
         bytes.now r.1.now r.0 nodes.old nodes.new) }
 {
     let mut rest = bytes;
@@ -156,9 +157,10 @@ fn put_inside<'i>(
     nodes: &mut [JsonNode],
 ) -> Option<(usize, &'i [u8])>
     requires { index + length bytes.now ≤ size }
-    ensures rest { MatchOption result (NoneStands (IsNestedTail keyed (IsValue level)) bytes.now)
-        (λ r. RestAfter (IsNestedTail keyed (IsValue level)) Never bytes.now r.1.now) }
-    ensures nodes { IfSome result (λ r. Writes (TailNodes keyed (ValueNodes level)) size index
+    ensures rest { MatchOption result
+        (NoMatchAtStart (IsNestedTail keyed (IsValue level)) bytes.now)
+        (λ r. RestAfter (IsNestedTail keyed (IsValue level)) NoByte bytes.now r.1.now) }
+    ensures nodes { IfSome result (λ r. WritesNodes (TailNodes keyed (ValueNodes level)) size index
         bytes.now r.1.now r.0 nodes.old nodes.new) }
 {
     match skip_empty(keyed, bytes) {
@@ -178,9 +180,10 @@ fn put_value<'i>(
     nodes: &mut [JsonNode],
 ) -> Option<(usize, &'i [u8])>
     requires { index + length bytes.now ≤ size }
-    ensures rest { MatchOption result (NoneStands (IsValue level) bytes.now)
-        (λ r. RestAfter (IsValue level) (IsNumberByteOf bytes.now) bytes.now r.1.now) }
-    ensures nodes { IfSome result (λ r. Writes (ValueNodes level) size index bytes.now r.1.now r.0
+    ensures rest { MatchOption result (NoMatchAtStart (IsValue level) bytes.now)
+        (λ r. RestAfter (IsValue level) (ExtendsNumberOf bytes.now) bytes.now r.1.now) }
+    ensures nodes { IfSome result
+        (λ r. WritesNodes (ValueNodes level) size index bytes.now r.1.now r.0
         nodes.old nodes.new) }
 {
     match skip_opening(bytes) {

@@ -1,18 +1,19 @@
 //! Numbers of JSON, as they stand in a text (RFC 8259, section 6).
 
 ghost use Rattle.std.specs.Prelude.{◌≡◌, IfNone, IfSome, MatchOption};
-ghost use Rattle.format_json_extents.specs.Number.{IsDigit, IsDigits, IsE, IsExponent, IsFraction};
-ghost use Rattle.format_json_extents.specs.Number.{IsMinus, IsNumber, IsNumberByte, IsPoint};
-ghost use Rattle.format_json_extents.specs.Number.{IsSign, IsWhole};
-ghost use Rattle.format_json_extents.specs.Texts.{IsByte, IsLongest, Maybe, Never, RestAfter};
-ghost use Rattle.format_json_extents.specs.Texts.{NoneStands, Or};
+ghost use Rattle.format_json_extents.specs.Number.{ExtendsNumber, IsDecimalPoint, IsDigit};
+ghost use Rattle.format_json_extents.specs.Number.{IsDigits, IsExponent, IsExponentLetter};
+ghost use Rattle.format_json_extents.specs.Number.{IsFraction, IsIntegerPart, IsMinus, IsNumber};
+ghost use Rattle.format_json_extents.specs.Number.{IsSign};
+ghost use Rattle.format_json_extents.specs.Texts.{IsByte, IsLongest, Maybe, NoByte, RestAfter};
+ghost use Rattle.format_json_extents.specs.Texts.{NoMatchAtStart, EitherByte};
 
 use crate::tokens::{skip_byte, skip_digits};
 
 /// Skips one or more digits.
 #[inline(always)]
 fn skip_some_digits<'i>(bytes: &'i [u8]) -> Option<&'i [u8]>
-    ensures { MatchOption result (NoneStands IsDigits bytes.now)
+    ensures { MatchOption result (NoMatchAtStart IsDigits bytes.now)
         (λ rest. RestAfter IsDigits IsDigit bytes.now rest.now) }
 {
     let (first, more) = bytes.split_first()?;
@@ -26,7 +27,7 @@ fn skip_some_digits<'i>(bytes: &'i [u8]) -> Option<&'i [u8]>
 /// Skips a minus sign, if there is one.
 #[inline(always)]
 fn skip_minus<'i>(bytes: &'i [u8]) -> &'i [u8]
-    ensures { RestAfter (Maybe (IsByte IsMinus)) (Or Never IsMinus) bytes.now result.now }
+    ensures { RestAfter (Maybe (IsByte IsMinus)) (EitherByte NoByte IsMinus) bytes.now result.now }
 {
     match skip_byte(b'-', bytes) {
         Some(rest) => rest,
@@ -37,7 +38,7 @@ fn skip_minus<'i>(bytes: &'i [u8]) -> &'i [u8]
 /// Skips a sign, if there is one.
 #[inline(always)]
 fn skip_sign<'i>(bytes: &'i [u8]) -> &'i [u8]
-    ensures { RestAfter (Maybe (IsByte IsSign)) (Or Never IsSign) bytes.now result.now }
+    ensures { RestAfter (Maybe (IsByte IsSign)) (EitherByte NoByte IsSign) bytes.now result.now }
 {
     match bytes.split_first() {
         Some((first, more)) => {
@@ -54,8 +55,8 @@ fn skip_sign<'i>(bytes: &'i [u8]) -> &'i [u8]
 /// Skips the integer part of a number.
 #[inline(always)]
 fn skip_whole<'i>(bytes: &'i [u8]) -> Option<&'i [u8]>
-    ensures { MatchOption result (NoneStands IsWhole bytes.now)
-        (λ rest. RestAfter IsWhole IsDigit bytes.now rest.now) }
+    ensures { MatchOption result (NoMatchAtStart IsIntegerPart bytes.now)
+        (λ rest. RestAfter IsIntegerPart IsDigit bytes.now rest.now) }
 {
     let (first, more) = bytes.split_first()?;
     if *first == b'0' {
@@ -71,7 +72,7 @@ fn skip_whole<'i>(bytes: &'i [u8]) -> Option<&'i [u8]>
 /// Skips a decimal point and digits.
 #[inline(always)]
 fn skip_fraction<'i>(bytes: &'i [u8]) -> Option<&'i [u8]>
-    ensures { MatchOption result (NoneStands IsFraction bytes.now)
+    ensures { MatchOption result (NoMatchAtStart IsFraction bytes.now)
         (λ rest. RestAfter IsFraction IsDigit bytes.now rest.now) }
 {
     let digits = skip_byte(b'.', bytes)?;
@@ -81,7 +82,7 @@ fn skip_fraction<'i>(bytes: &'i [u8]) -> Option<&'i [u8]>
 /// Skips an exponent.
 #[inline(always)]
 fn skip_exponent<'i>(bytes: &'i [u8]) -> Option<&'i [u8]>
-    ensures { MatchOption result (NoneStands IsExponent bytes.now)
+    ensures { MatchOption result (NoMatchAtStart IsExponent bytes.now)
         (λ rest. RestAfter IsExponent IsDigit bytes.now rest.now) }
 {
     let (first, more) = bytes.split_first()?;
@@ -95,7 +96,8 @@ fn skip_exponent<'i>(bytes: &'i [u8]) -> Option<&'i [u8]>
 /// Skips a fraction, if there is one.
 #[inline(always)]
 fn skip_any_fraction<'i>(bytes: &'i [u8]) -> &'i [u8]
-    ensures { RestAfter (Maybe IsFraction) (Or IsDigit IsPoint) bytes.now result.now }
+    ensures { RestAfter (Maybe IsFraction) (EitherByte IsDigit IsDecimalPoint) bytes.now
+        result.now }
 {
     match skip_fraction(bytes) {
         Some(rest) => rest,
@@ -106,7 +108,8 @@ fn skip_any_fraction<'i>(bytes: &'i [u8]) -> &'i [u8]
 /// Skips an exponent, if there is one.
 #[inline(always)]
 fn skip_any_exponent<'i>(bytes: &'i [u8]) -> &'i [u8]
-    ensures { RestAfter (Maybe IsExponent) (Or IsDigit IsE) bytes.now result.now }
+    ensures { RestAfter (Maybe IsExponent) (EitherByte IsDigit IsExponentLetter) bytes.now
+        result.now }
 {
     match skip_exponent(bytes) {
         Some(rest) => rest,
@@ -117,8 +120,8 @@ fn skip_any_exponent<'i>(bytes: &'i [u8]) -> &'i [u8]
 /// Skips the longest number, and returns the remaining bytes.
 #[inline(always)]
 pub fn skip_number<'i>(bytes: &'i [u8]) -> Option<&'i [u8]>
-    ensures { MatchOption result (NoneStands IsNumber bytes.now)
-        (λ rest. RestAfter IsNumber IsNumberByte bytes.now rest.now) }
+    ensures { MatchOption result (NoMatchAtStart IsNumber bytes.now)
+        (λ rest. RestAfter IsNumber ExtendsNumber bytes.now rest.now) }
 {
     let rest = skip_whole(skip_minus(bytes))?;
     Some(skip_any_exponent(skip_any_fraction(rest)))
@@ -140,7 +143,7 @@ pub fn skip_number<'i>(bytes: &'i [u8]) -> Option<&'i [u8]>
 pub fn read_number<'i>(input: &mut &'i [u8]) -> Option<&'i [u8]>
     ensures found { IfSome result (λ text.
         IsLongest IsNumber text.now input.old.now input.new.now) }
-    ensures none { IfNone result (NoneStands IsNumber input.old.now) }
+    ensures none { IfNone result (NoMatchAtStart IsNumber input.old.now) }
     ensures kept { IfNone result (input.new.now ≡ input.old.now) }
 {
     let start = *input;

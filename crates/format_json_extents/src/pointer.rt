@@ -3,7 +3,7 @@
 ghost use Rattle.std.specs.Prelude.{◌≡◌, ◌↔◌, IfNone, IfSome, IsTrue};
 ghost use Rattle.format_json_extents.specs.Pointer.{AreEscapes, BeginsEscape, IsChild, IsLookup};
 ghost use Rattle.format_json_extents.specs.Pointer.{IsPointer, IsToken};
-ghost use Rattle.format_json_extents.specs.Texts.{NoneStands};
+ghost use Rattle.format_json_extents.specs.Texts.{NoMatchAtStart};
 ghost use Rattle.format_json_extents.specs.Value.{IsText, IsValue};
 
 pub mod item;
@@ -97,7 +97,7 @@ fn find_child<'i>(
     token: &[u8],
     value: &'i [u8],
 ) -> Option<(Lookup, &'i [u8], &'i [u8])>
-    ensures none { IfNone result (NoneStands (IsValue level) value.now) }
+    ensures none { IfNone result (NoMatchAtStart (IsValue level) value.now) }
     ensures found { IfSome result (λ r.
         IsChild r.0 level token.now value.now r.1.now r.2.now) }
 {

@@ -1,24 +1,24 @@
 //! Values that have no others in them: strings, numbers and words.
 
 ghost use Rattle.std.specs.Prelude.{MatchOption};
-ghost use Rattle.format_json_extents.specs.Texts.{Never, NoneStands, RestAfter};
-ghost use Rattle.format_json_extents.specs.Value.{IsNumberByteOf, IsScalar, IsWord, Only};
+ghost use Rattle.format_json_extents.specs.Texts.{NoByte, NoMatchAtStart, RestAfter};
+ghost use Rattle.format_json_extents.specs.Value.{Exactly, ExtendsNumberOf, IsScalar, IsWord};
 
 use crate::number::skip_number;
 use crate::string::skip_string_tail;
 
 /// Skips `word`.
 fn skip_this<'i>(word: &[u8], bytes: &'i [u8]) -> Option<&'i [u8]>
-    ensures { MatchOption result (NoneStands (Only word.now) bytes.now)
-        (λ rest. RestAfter (Only word.now) Never bytes.now rest.now) }
+    ensures { MatchOption result (NoMatchAtStart (Exactly word.now) bytes.now)
+        (λ rest. RestAfter (Exactly word.now) NoByte bytes.now rest.now) }
 {
     bytes.strip_prefix(word)
 }
 
 /// Skips `null`, `true` or `false`.
 fn skip_word<'i>(bytes: &'i [u8]) -> Option<&'i [u8]>
-    ensures { MatchOption result (NoneStands IsWord bytes.now)
-        (λ rest. RestAfter IsWord Never bytes.now rest.now) }
+    ensures { MatchOption result (NoMatchAtStart IsWord bytes.now)
+        (λ rest. RestAfter IsWord NoByte bytes.now rest.now) }
 {
     match skip_this(b"null".as_slice(), bytes) {
         Some(rest) => Some(rest),
@@ -32,8 +32,8 @@ fn skip_word<'i>(bytes: &'i [u8]) -> Option<&'i [u8]>
 /// Skips a value that is not an array or an object, and returns the remaining bytes.
 #[inline(always)]
 pub fn skip_scalar<'i>(bytes: &'i [u8]) -> Option<&'i [u8]>
-    ensures { MatchOption result (NoneStands IsScalar bytes.now)
-        (λ rest. RestAfter IsScalar (IsNumberByteOf bytes.now) bytes.now rest.now) }
+    ensures { MatchOption result (NoMatchAtStart IsScalar bytes.now)
+        (λ rest. RestAfter IsScalar (ExtendsNumberOf bytes.now) bytes.now rest.now) }
 {
     let (first, inside) = bytes.split_first()?;
     if *first == b'"' {

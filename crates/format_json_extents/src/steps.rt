@@ -2,13 +2,13 @@
 //! arrays or objects. So each byte is read once, however deeply it is nested.
 
 ghost use Rattle.std.specs.Prelude.{◌≡◌, ◌↔◌, List, ℕ, IfNone, IfSome, IsTrue, MatchOption};
-ghost use Rattle.format_json_extents.specs.Number.{IsNumberByte};
+ghost use Rattle.format_json_extents.specs.Number.{ExtendsNumber};
 ghost use Rattle.format_json_extents.specs.Steps.{IsBeforeColon, IsBracket, IsNextStep, IsOfStep};
 ghost use Rattle.format_json_extents.specs.Steps.{IsToken};
 ghost use Rattle.format_json_extents.specs.Strings.{IsString};
-ghost use Rattle.format_json_extents.specs.Texts.{NoneStands, RestAfter, Then};
-ghost use Rattle.format_json_extents.specs.Value.{IsGap};
-ghost use Rattle.format_json_extents.specs.Walk.{IsLead};
+ghost use Rattle.format_json_extents.specs.Texts.{NoMatchAtStart, RestAfter, Then};
+ghost use Rattle.format_json_extents.specs.Value.{IsWhitespace};
+ghost use Rattle.format_json_extents.specs.Walk.{IsSeparator};
 
 use crate::scalar::skip_scalar;
 use crate::tokens::{skip_byte, skip_whitespace};
@@ -50,8 +50,8 @@ fn is_bracket(byte: u8) -> bool
 /// Skips a bracket, or a value that is not an array or an object.
 #[inline(always)]
 fn skip_token<'i>(bytes: &'i [u8]) -> Option<&'i [u8]>
-    ensures { MatchOption result (NoneStands IsToken bytes.now)
-        (λ rest. RestAfter IsToken IsNumberByte bytes.now rest.now) }
+    ensures { MatchOption result (NoMatchAtStart IsToken bytes.now)
+        (λ rest. RestAfter IsToken ExtendsNumber bytes.now rest.now) }
 {
     let (first, more) = bytes.split_first()?;
     if is_bracket(*first) {
@@ -127,7 +127,7 @@ fn of_text(text: &[u8], rest: &[u8]) -> Step
 pub fn read_step<'i>(input: &mut &'i [u8]) -> Option<(Step, &'i [u8])>
     ensures found { IfSome result (λ it.
         IsNextStep it.0 it.1.now input.old.now input.new.now) }
-    ensures none { IfNone result (NoneStands (Then IsLead IsToken) input.old.now) }
+    ensures none { IfNone result (NoMatchAtStart (Then IsSeparator IsToken) input.old.now) }
     ensures kept { IfNone result (input.new.now ≡ input.old.now) }
 {
     let start = skip_separator(*input);
@@ -146,7 +146,7 @@ pub fn read_step<'i>(input: &mut &'i [u8]) -> Option<(Step, &'i [u8])>
 /// assert!(rt; !is_over(b" ]".as_slice()));
 /// ```
 pub fn is_over(bytes: &[u8]) -> bool
-    ensures { IsTrue result ↔ IsGap bytes.now }
+    ensures { IsTrue result ↔ IsWhitespace bytes.now }
 {
     skip_whitespace(bytes).is_empty()
 }

@@ -1,10 +1,11 @@
 //! Strings of JSON, as they stand in a text (RFC 8259, section 7).
 
 ghost use Rattle.std.specs.Prelude.{◌≡◌, ◌↔◌, List, ℕ, IfNone, IfSome, IsTrue, MatchOption};
-ghost use Rattle.format_json_extents.specs.Strings.{BeginUnit, IsCharacter, IsEscape, IsEscaped};
-ghost use Rattle.format_json_extents.specs.Strings.{IsHexDigit, IsInQuotes, IsPair, IsString};
-ghost use Rattle.format_json_extents.specs.Strings.{IsStringTail, IsTwoDigits, IsUnit};
-ghost use Rattle.format_json_extents.specs.Texts.{IsByte, MatchesAtStart, Never, NoneStands};
+ghost use Rattle.format_json_extents.specs.Strings.{BeginCodeUnit, IsCharacterCode, IsCodeUnit};
+ghost use Rattle.format_json_extents.specs.Strings.{IsEscape, IsEscaped, IsHexDigit, IsInQuotes};
+ghost use Rattle.format_json_extents.specs.Strings.{IsString, IsStringTail, IsSurrogatePair};
+ghost use Rattle.format_json_extents.specs.Strings.{IsTwoHexDigits};
+ghost use Rattle.format_json_extents.specs.Texts.{IsByte, MatchesAtStart, NoByte, NoMatchAtStart};
 ghost use Rattle.format_json_extents.specs.Texts.{RestAfter};
 
 use crate::tokens::{skip_byte, skip_unescaped};
@@ -45,7 +46,7 @@ enum Unit {
 
 /// Whether these are the first two digits of such a unit.
 fn begins(unit: Unit, first: u8, second: u8) -> bool
-    ensures { IsTrue result ↔ BeginUnit unit first second }
+    ensures { IsTrue result ↔ BeginCodeUnit unit first second }
 {
     let surrogates = first == b'D' || first == b'd';
     match unit {
@@ -61,8 +62,8 @@ fn begins(unit: Unit, first: u8, second: u8) -> bool
 
 /// Skips a hexadecimal digit.
 fn skip_digit<'i>(bytes: &'i [u8]) -> Option<&'i [u8]>
-    ensures { MatchOption result (NoneStands (IsByte IsHexDigit) bytes.now)
-        (λ rest. RestAfter (IsByte IsHexDigit) Never bytes.now rest.now) }
+    ensures { MatchOption result (NoMatchAtStart (IsByte IsHexDigit) bytes.now)
+        (λ rest. RestAfter (IsByte IsHexDigit) NoByte bytes.now rest.now) }
 {
     let (first, more) = bytes.split_first()?;
     if is_hex_digit(*first) {
@@ -74,8 +75,8 @@ fn skip_digit<'i>(bytes: &'i [u8]) -> Option<&'i [u8]>
 
 /// Skips two hexadecimal digits.
 fn skip_two_digits<'i>(bytes: &'i [u8]) -> Option<&'i [u8]>
-    ensures { MatchOption result (NoneStands IsTwoDigits bytes.now)
-        (λ rest. RestAfter IsTwoDigits Never bytes.now rest.now) }
+    ensures { MatchOption result (NoMatchAtStart IsTwoHexDigits bytes.now)
+        (λ rest. RestAfter IsTwoHexDigits NoByte bytes.now rest.now) }
 {
     let one = skip_digit(bytes)?;
     skip_digit(one)
@@ -83,8 +84,8 @@ fn skip_two_digits<'i>(bytes: &'i [u8]) -> Option<&'i [u8]>
 
 /// Skips the four digits of a unit of this kind.
 fn skip_unit<'i>(unit: Unit, bytes: &'i [u8]) -> Option<&'i [u8]>
-    ensures { MatchOption result (NoneStands (IsUnit (BeginUnit unit)) bytes.now)
-        (λ rest. RestAfter (IsUnit (BeginUnit unit)) Never bytes.now rest.now) }
+    ensures { MatchOption result (NoMatchAtStart (IsCodeUnit (BeginCodeUnit unit)) bytes.now)
+        (λ rest. RestAfter (IsCodeUnit (BeginCodeUnit unit)) NoByte bytes.now rest.now) }
 {
     let (first, more) = bytes.split_first()?;
     let (second, digits) = more.split_first()?;
@@ -97,8 +98,8 @@ fn skip_unit<'i>(unit: Unit, bytes: &'i [u8]) -> Option<&'i [u8]>
 
 /// Skips the digits of a high surrogate, and the escaped low surrogate after them.
 fn skip_pair<'i>(bytes: &'i [u8]) -> Option<&'i [u8]>
-    ensures { MatchOption result (NoneStands IsPair bytes.now)
-        (λ rest. RestAfter IsPair Never bytes.now rest.now) }
+    ensures { MatchOption result (NoMatchAtStart IsSurrogatePair bytes.now)
+        (λ rest. RestAfter IsSurrogatePair NoByte bytes.now rest.now) }
 {
     let high = skip_unit(Unit::High, bytes)?;
     let escape = skip_byte(b'\\', high)?;
@@ -108,8 +109,8 @@ fn skip_pair<'i>(bytes: &'i [u8]) -> Option<&'i [u8]>
 
 /// Skips the digits of a character: those of one unit, or of a pair.
 fn skip_character<'i>(bytes: &'i [u8]) -> Option<&'i [u8]>
-    ensures { MatchOption result (NoneStands IsCharacter bytes.now)
-        (λ rest. RestAfter IsCharacter Never bytes.now rest.now) }
+    ensures { MatchOption result (NoMatchAtStart IsCharacterCode bytes.now)
+        (λ rest. RestAfter IsCharacterCode NoByte bytes.now rest.now) }
 {
     match skip_unit(Unit::Only, bytes) {
         Some(rest) => Some(rest),
@@ -119,8 +120,8 @@ fn skip_character<'i>(bytes: &'i [u8]) -> Option<&'i [u8]>
 
 /// Skips the bytes that a backslash escapes.
 pub(crate) fn skip_escape<'i>(bytes: &'i [u8]) -> Option<&'i [u8]>
-    ensures { MatchOption result (NoneStands IsEscape bytes.now)
-        (λ rest. RestAfter IsEscape Never bytes.now rest.now) }
+    ensures { MatchOption result (NoMatchAtStart IsEscape bytes.now)
+        (λ rest. RestAfter IsEscape NoByte bytes.now rest.now) }
 {
     let (first, more) = bytes.split_first()?;
     if *first == b'u' {
@@ -135,8 +136,8 @@ pub(crate) fn skip_escape<'i>(bytes: &'i [u8]) -> Option<&'i [u8]>
 /// The same as `skip_string_tail`, of a string with escapes.
 #[inline(never)]
 fn skip_pieces<'i>(bytes: &'i [u8]) -> Option<&'i [u8]>
-    ensures { MatchOption result (NoneStands IsStringTail bytes.now)
-        (λ rest. RestAfter IsStringTail Never bytes.now rest.now) }
+    ensures { MatchOption result (NoMatchAtStart IsStringTail bytes.now)
+        (λ rest. RestAfter IsStringTail NoByte bytes.now rest.now) }
 {
     let mut rest = bytes;
     'pieces: loop {
@@ -154,8 +155,8 @@ fn skip_pieces<'i>(bytes: &'i [u8]) -> Option<&'i [u8]>
 /// Skips a string from after its first quote, and returns the remaining bytes.
 #[inline(always)]
 pub fn skip_string_tail<'i>(bytes: &'i [u8]) -> Option<&'i [u8]>
-    ensures { MatchOption result (NoneStands IsStringTail bytes.now)
-        (λ rest. RestAfter IsStringTail Never bytes.now rest.now) }
+    ensures { MatchOption result (NoMatchAtStart IsStringTail bytes.now)
+        (λ rest. RestAfter IsStringTail NoByte bytes.now rest.now) }
 {
     let ahead = skip_unescaped(bytes);
     match skip_byte(b'"', ahead) {
@@ -167,8 +168,8 @@ pub fn skip_string_tail<'i>(bytes: &'i [u8]) -> Option<&'i [u8]>
 /// Skips a string, and returns the remaining bytes.
 #[inline(always)]
 pub fn skip_string<'i>(bytes: &'i [u8]) -> Option<&'i [u8]>
-    ensures { MatchOption result (NoneStands IsString bytes.now)
-        (λ rest. RestAfter IsString Never bytes.now rest.now) }
+    ensures { MatchOption result (NoMatchAtStart IsString bytes.now)
+        (λ rest. RestAfter IsString NoByte bytes.now rest.now) }
 {
     let inside = skip_byte(b'"', bytes)?;
     skip_string_tail(inside)
@@ -198,7 +199,7 @@ pub fn read_string<'i>(input: &mut &'i [u8]) -> Option<&'i [u8]>
     ensures found { IfSome result (λ text. IsInQuotes text.now input.old.now input.new.now) }
     ensures only { (rest : List ℕ) → MatchesAtStart IsString input.old.now rest
         → rest ≡ input.new.now }
-    ensures none { IfNone result (NoneStands IsString input.old.now) }
+    ensures none { IfNone result (NoMatchAtStart IsString input.old.now) }
     ensures kept { IfNone result (input.new.now ≡ input.old.now) }
 {
     let inside = skip_byte(b'"', *input)?;

@@ -5,7 +5,7 @@ ghost use Rattle.std.specs.List.{All};
 ghost use Rattle.format_json_extents.specs.Number.{IsDigit};
 ghost use Rattle.format_json_extents.specs.Strings.{IsUnescaped};
 ghost use Rattle.format_json_extents.specs.Texts.{EndsAt, RestAfter};
-ghost use Rattle.format_json_extents.specs.Value.{IsSpace};
+ghost use Rattle.format_json_extents.specs.Value.{IsWhitespaceByte};
 
 use std::simd::prelude::*;
 
@@ -15,7 +15,7 @@ const LANES: usize = 16;
 /// Whether a byte is whitespace.
 #[inline(always)]
 fn is_space(byte: u8) -> bool
-    ensures { IsTrue result ↔ IsSpace byte }
+    ensures { IsTrue result ↔ IsWhitespaceByte byte }
 {
     // Most bytes are above.
     byte <= b' ' && (byte == b' ' || byte == b'\n' || byte == b'\r' || byte == b'\t')
@@ -60,7 +60,7 @@ pub fn skip_digits<'i>(bytes: &'i [u8]) -> &'i [u8]
 /// Skips all whitespace, and returns the remaining bytes.
 #[inline(always)]
 pub fn skip_whitespace<'i>(bytes: &'i [u8]) -> &'i [u8]
-    ensures { RestAfter (All IsSpace) IsSpace bytes.now result.now }
+    ensures { RestAfter (All IsWhitespaceByte) IsWhitespaceByte bytes.now result.now }
 {
     // Mostly there is none, or one byte.
     match bytes.split_first() {
@@ -78,7 +78,7 @@ pub fn skip_whitespace<'i>(bytes: &'i [u8]) -> &'i [u8]
 /// The same, after a byte of whitespace.
 #[inline(always)]
 fn skip_more_whitespace<'i>(bytes: &'i [u8]) -> &'i [u8]
-    ensures { RestAfter (All IsSpace) IsSpace bytes.now result.now }
+    ensures { RestAfter (All IsWhitespaceByte) IsWhitespaceByte bytes.now result.now }
 {
     match bytes.split_first() {
         Some((first, more)) => {
@@ -122,8 +122,8 @@ fn unescaped_first(lanes: u8x16) -> Option<usize>
 /// Returns the number of lanes before the first that is not whitespace, or `None` if all are.
 #[inline(always)]
 fn space_first(lanes: u8x16) -> Option<usize>
-    ensures { MatchOption result (All IsSpace lanes)
-        (λ count. EndsAt IsSpace lanes count) }
+    ensures { MatchOption result (All IsWhitespaceByte lanes)
+        (λ count. EndsAt IsWhitespaceByte lanes count) }
 {
     // Each byte of whitespace becomes a space.
     let space = u8x16::splat(b' ');
@@ -140,7 +140,7 @@ fn space_first(lanes: u8x16) -> Option<usize>
 /// The same as `skip_whitespace`, of several bytes of whitespace.
 #[inline(never)]
 fn skip_long_whitespace<'i>(bytes: &'i [u8]) -> &'i [u8]
-    ensures { RestAfter (All IsSpace) IsSpace bytes.now result.now }
+    ensures { RestAfter (All IsWhitespaceByte) IsWhitespaceByte bytes.now result.now }
 {
     let mut rest = bytes;
     'lanes: while rest.len() >= LANES {

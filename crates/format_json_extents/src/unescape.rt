@@ -5,7 +5,7 @@ ghost use Rattle.std.specs.Prelude.{MatchOption, length};
 ghost use Rattle.std.specs.Char.{IsScalar, encode_utf8};
 ghost use Rattle.format_json_extents.specs.Strings.{IsEscape, IsEscaped, IsHexDigit, IsString};
 ghost use Rattle.format_json_extents.specs.Strings.{IsStringTail};
-ghost use Rattle.format_json_extents.specs.Texts.{NoneStands};
+ghost use Rattle.format_json_extents.specs.Texts.{NoMatchAtStart};
 ghost use Rattle.format_json_extents.specs.Unescaped.{IsEscapePut, IsPut, IsStringWritten};
 ghost use Rattle.format_json_extents.specs.Unescaped.{IsTailWritten};
 ghost use Rattle.format_json_texts.specs.Strings.{EscapeText, StandsFor};
@@ -116,7 +116,7 @@ fn put_escape(escape: &[u8], at: usize, buffer: &mut [u8]) -> usize
 /// Writes the contents of a string from after its first quote; returns their length in bytes, and
 /// the bytes after the last quote.
 fn write_tail<'i>(bytes: &'i [u8], buffer: &mut [u8]) -> Option<(usize, &'i [u8])>
-    ensures { MatchOption result (NoneStands IsStringTail bytes.now)
+    ensures { MatchOption result (NoMatchAtStart IsStringTail bytes.now)
         (λ r. IsTailWritten r.0 bytes.now r.1.now buffer.old buffer.new) }
 {
     let mut rest = bytes;
@@ -164,7 +164,7 @@ fn write_tail<'i>(bytes: &'i [u8], buffer: &mut [u8]) -> Option<(usize, &'i [u8]
 pub fn write_string<'i>(input: &mut &'i [u8], buffer: &mut [u8]) -> Option<usize>
     ensures written { IfSome result (λ count.
         IsStringWritten count input.old.now input.new.now buffer.old buffer.new) }
-    ensures none { IfNone result (NoneStands IsString input.old.now) }
+    ensures none { IfNone result (NoMatchAtStart IsString input.old.now) }
     ensures kept { IfNone result (input.new.now ≡ input.old.now) }
 {
     let inside = skip_byte(b'"', *input)?;

@@ -4,10 +4,10 @@ ghost use Rattle.std.specs.Prelude.{◌≡◌, ◌≤◌, ◌↔◌, ◌∷◌, 
 ghost use Rattle.std.specs.Prelude.{IsTrue, MatchOption, length};
 ghost use Rattle.std.specs.Str.{IsUtf8};
 ghost use Rattle.format_json_extents.specs.Standard.{IsTextByStandard, IsValueByStandard};
-ghost use Rattle.format_json_extents.specs.Texts.{IsLongest, Never, NoneStands, RestAfter};
-ghost use Rattle.format_json_extents.specs.Value.{IsEmptyTail, IsEnded, IsItemsTail, IsName};
-ghost use Rattle.format_json_extents.specs.Value.{IsNumberByteOf, IsText, IsValue, closing};
-ghost use Rattle.format_json_extents.specs.Value.{opening};
+ghost use Rattle.format_json_extents.specs.Texts.{IsLongest, NoByte, NoMatchAtStart, RestAfter};
+ghost use Rattle.format_json_extents.specs.Value.{ExtendsNumberOf, IsEmptyTail, IsItemsTail};
+ghost use Rattle.format_json_extents.specs.Value.{IsName, IsNotContinued, IsText, IsValue};
+ghost use Rattle.format_json_extents.specs.Value.{closing_bracket, opening_bracket};
 
 use crate::scalar::skip_scalar;
 use crate::string::skip_string;
@@ -17,8 +17,8 @@ use crate::tokens::{skip_byte, skip_whitespace};
 #[inline(always)]
 pub fn skip_opening<'i>(bytes: &'i [u8]) -> Option<(bool, &'i [u8])>
     ensures { MatchOption result
-        ((keyed : Bool) (more : List ℕ) → bytes.now ≡ opening keyed ∷ more → ⊥)
-        (λ r. bytes.now ≡ opening r.0 ∷ r.1.now) }
+        ((keyed : Bool) (more : List ℕ) → bytes.now ≡ opening_bracket keyed ∷ more → ⊥)
+        (λ r. bytes.now ≡ opening_bracket r.0 ∷ r.1.now) }
 {
     let (first, inside) = bytes.split_first()?;
     match *first {
@@ -31,8 +31,8 @@ pub fn skip_opening<'i>(bytes: &'i [u8]) -> Option<(bool, &'i [u8])>
 /// Skips the closing bracket.
 #[inline(always)]
 pub fn skip_closing<'i>(keyed: bool, bytes: &'i [u8]) -> Option<&'i [u8]>
-    ensures { MatchOption result ((more : List ℕ) → bytes.now ≡ closing keyed ∷ more → ⊥)
-        (λ rest. bytes.now ≡ closing keyed ∷ rest.now) }
+    ensures { MatchOption result ((more : List ℕ) → bytes.now ≡ closing_bracket keyed ∷ more → ⊥)
+        (λ rest. bytes.now ≡ closing_bracket keyed ∷ rest.now) }
 {
     if keyed {
         skip_byte(b'}', bytes)
@@ -44,8 +44,8 @@ pub fn skip_closing<'i>(keyed: bool, bytes: &'i [u8]) -> Option<&'i [u8]>
 /// Skips the closing bracket of an empty array or object.
 #[inline(always)]
 pub fn skip_empty<'i>(keyed: bool, bytes: &'i [u8]) -> Option<&'i [u8]>
-    ensures { MatchOption result (NoneStands (IsEmptyTail keyed) bytes.now)
-        (λ rest. RestAfter (IsEmptyTail keyed) Never bytes.now rest.now) }
+    ensures { MatchOption result (NoMatchAtStart (IsEmptyTail keyed) bytes.now)
+        (λ rest. RestAfter (IsEmptyTail keyed) NoByte bytes.now rest.now) }
 {
     skip_closing(keyed, skip_whitespace(bytes))
 }
@@ -53,8 +53,8 @@ pub fn skip_empty<'i>(keyed: bool, bytes: &'i [u8]) -> Option<&'i [u8]>
 /// Skips a name and its colon in an object, and nothing in an array.
 #[inline(always)]
 fn skip_name<'i>(keyed: bool, bytes: &'i [u8]) -> Option<&'i [u8]>
-    ensures { MatchOption result (NoneStands (IsName keyed) bytes.now)
-        (λ rest. RestAfter (IsName keyed) Never bytes.now rest.now) }
+    ensures { MatchOption result (NoMatchAtStart (IsName keyed) bytes.now)
+        (λ rest. RestAfter (IsName keyed) NoByte bytes.now rest.now) }
 {
     if keyed {
         let name = skip_string(skip_whitespace(bytes))?;
@@ -68,8 +68,8 @@ fn skip_name<'i>(keyed: bool, bytes: &'i [u8]) -> Option<&'i [u8]>
 #[cycle(nesting)]
 #[inline(never)]
 fn skip_items<'i>(keyed: bool, level: usize, bytes: &'i [u8]) -> Option<&'i [u8]>
-    ensures { MatchOption result (NoneStands (IsItemsTail keyed (IsValue level)) bytes.now)
-        (λ rest. RestAfter (IsItemsTail keyed (IsValue level)) Never bytes.now rest.now) }
+    ensures { MatchOption result (NoMatchAtStart (IsItemsTail keyed (IsValue level)) bytes.now)
+        (λ rest. RestAfter (IsItemsTail keyed (IsValue level)) NoByte bytes.now rest.now) }
 {
     let mut rest = bytes;
     'items: loop {
@@ -87,8 +87,8 @@ fn skip_items<'i>(keyed: bool, level: usize, bytes: &'i [u8]) -> Option<&'i [u8]
 #[cycle(nesting)]
 #[inline(always)]
 pub fn skip_value<'i>(level: usize, bytes: &'i [u8]) -> Option<&'i [u8]>
-    ensures { MatchOption result (NoneStands (IsValue level) bytes.now)
-        (λ rest. RestAfter (IsValue level) (IsNumberByteOf bytes.now) bytes.now rest.now) }
+    ensures { MatchOption result (NoMatchAtStart (IsValue level) bytes.now)
+        (λ rest. RestAfter (IsValue level) (ExtendsNumberOf bytes.now) bytes.now rest.now) }
 {
     match skip_opening(bytes) {
         Some((keyed, inside)) => {
@@ -128,10 +128,10 @@ pub fn skip_value<'i>(level: usize, bytes: &'i [u8]) -> Option<&'i [u8]>
 pub fn read_value<'i>(level: usize, input: &mut &'i [u8]) -> Option<&'i [u8]>
     ensures found { IfSome result (λ text.
         IsLongest (IsValue level) text.now input.old.now input.new.now) }
-    ensures none { IfNone result (NoneStands (IsValue level) input.old.now) }
+    ensures none { IfNone result (NoMatchAtStart (IsValue level) input.old.now) }
     ensures kept { IfNone result (input.new.now ≡ input.old.now) }
     ensures only { (text rest : List ℕ) → IsValue level text → input.old.now ≡ text ++ rest
-        → IsEnded text rest → MatchOption result ⊥ (λ found. text ≡ found.now) }
+        → IsNotContinued text rest → MatchOption result ⊥ (λ found. text ≡ found.now) }
     ensures standard { IfSome result (λ text. IsUtf8 text.now → IsValueByStandard level text.now) }
     ensures longest { (text rest : List ℕ) → IsValueByStandard level text
         → input.old.now ≡ text ++ rest

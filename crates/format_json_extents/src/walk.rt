@@ -1,10 +1,11 @@
 //! The values in arrays and objects of JSON, in sequence.
 
 ghost use Rattle.std.specs.Prelude.{◌≡◌, ◌↔◌, ℕ, IfNone, IfSome, IsTrue};
-ghost use Rattle.format_json_extents.specs.Texts.{NoneStands, RestAfter, Then};
+ghost use Rattle.format_json_extents.specs.Texts.{NoMatchAtStart, RestAfter, Then};
 ghost use Rattle.format_json_extents.specs.Value.{IsValue};
-ghost use Rattle.format_json_extents.specs.Walk.{EndsItems, IsClosingByte, IsLead, IsLeadByte};
-ghost use Rattle.format_json_extents.specs.Walk.{IsMark, IsNext, IsOfKind};
+ghost use Rattle.format_json_extents.specs.Walk.{EndsItems, ExtendsSeparator, IsClosingByte};
+ghost use Rattle.format_json_extents.specs.Walk.{IsCommaOrColon, IsNextValue, IsOfKind};
+ghost use Rattle.format_json_extents.specs.Walk.{IsSeparator};
 
 use crate::tokens::skip_whitespace;
 use crate::value::read_value;
@@ -52,7 +53,7 @@ pub fn kind_of(value: &[u8]) -> Kind
 
 /// Whether a byte is a comma or a colon.
 fn is_mark(byte: u8) -> bool
-    ensures { IsTrue result ↔ IsMark byte }
+    ensures { IsTrue result ↔ IsCommaOrColon byte }
 {
     byte == b',' || byte == b':'
 }
@@ -67,7 +68,7 @@ fn is_closing(byte: u8) -> bool
 /// Skips whitespace, at most one comma or colon, and whitespace; returns the remaining bytes.
 #[inline(always)]
 pub fn skip_separator<'i>(bytes: &'i [u8]) -> &'i [u8]
-    ensures { RestAfter IsLead IsLeadByte bytes.now result.now }
+    ensures { RestAfter IsSeparator ExtendsSeparator bytes.now result.now }
 {
     let ahead = skip_whitespace(bytes);
     match ahead.split_first() {
@@ -99,8 +100,8 @@ pub fn skip_separator<'i>(bytes: &'i [u8]) -> &'i [u8]
 /// ```
 pub fn read_next<'i>(level: usize, input: &mut &'i [u8]) -> Option<&'i [u8]>
     ensures found { IfSome result (λ text.
-        IsNext level text.now input.old.now input.new.now) }
-    ensures none { IfNone result (NoneStands (Then IsLead (IsValue level)) input.old.now) }
+        IsNextValue level text.now input.old.now input.new.now) }
+    ensures none { IfNone result (NoMatchAtStart (Then IsSeparator (IsValue level)) input.old.now) }
     ensures kept { IfNone result (input.new.now ≡ input.old.now) }
 {
     let mut left = skip_separator(*input);

@@ -3,14 +3,15 @@
 use Rattle.std.specs.Prelude.{◌≡◌, ◌-◌, ◌++◌, ◌∷◌, ℕ, [], Bool, List, false, length, true}
 use Rattle.std.proofs.Common.{ap, append_assoc, refl, sym, ◌∙◌}
 use Rattle.std.specs.List.{All}
-use Rattle.format_json_extents.proofs.Matching.{joined}
-use Rattle.format_json_extents.specs.Number.{IsDigit, IsDigits, IsExponent, IsFraction, IsSign}
-use Rattle.format_json_extents.specs.Number.{IsWhole}
-use Rattle.format_json_extents.specs.Strings.{BeginLow, IsBackslash, IsCharacter, IsD, IsEscape}
-use Rattle.format_json_extents.specs.Strings.{IsHexDigit, IsStringTail, IsTwoDigits, IsU, IsUnit}
+use Rattle.format_json_extents.proofs.Matching.{then_of_parts}
+use Rattle.format_json_extents.specs.Number.{IsDigit, IsDigits, IsExponent, IsFraction}
+use Rattle.format_json_extents.specs.Number.{IsIntegerPart, IsSign}
+use Rattle.format_json_extents.specs.Strings.{BeginLowSurrogate, IsBackslash, IsCharacterCode}
+use Rattle.format_json_extents.specs.Strings.{IsCodeUnit, IsEscape, IsHexDigit, IsHexDigitD}
+use Rattle.format_json_extents.specs.Strings.{IsLetterU, IsStringTail, IsTwoHexDigits}
 use Rattle.format_json_extents.specs.Texts.{Either, IsByte, Maybe, Then}
-use Rattle.format_json_extents.specs.Value.{IsClosing, IsColon, IsGap, IsItemsTail, IsNestedTail}
-use Rattle.format_json_extents.specs.Value.{IsValue, Only}
+use Rattle.format_json_extents.specs.Value.{Exactly, IsClosing, IsColon, IsItemsTail, IsNestedTail}
+use Rattle.format_json_extents.specs.Value.{IsValue, IsWhitespace}
 use Rattle.format_json_pieces.specs.declared.begun.Bracket.{Bracket}
 use Rattle.format_json_pieces.specs.declared.begun.Bracket.TheVariants as kinds
 use Rattle.format_json_pieces.specs.declared.begun.Mode.{Mode}
@@ -38,56 +39,57 @@ pub mod Walked
 pub in_front : {P Q R : List ℕ → Type 0} (xs : List ℕ) {l : List ℕ}
     → ((m : List ℕ) → P m → Q (xs ++ m)) → Then P R l → Then Q R (xs ++ l)
 in_front xs makes it =
-    joined (xs ++ it.first) it.second (makes it.first it.is_first) it.is_second
+    then_of_parts (xs ++ it.first) it.second (makes it.first it.is_first) it.is_second
     (ap (λ m. xs ++ m) it.joins ∙ sym (append_assoc xs it.first it.second))
 
 pub then_left : {P Q R : List ℕ → Type 0} {l : List ℕ} → Then P (Then Q R) l
     → Then (Then P Q) R l
 then_left it =
     let more = it.is_second in
-    joined (it.first ++ more.first) more.second
-    (joined it.first more.first it.is_first more.is_first refl) more.is_second
+    then_of_parts (it.first ++ more.first) more.second
+    (then_of_parts it.first more.first it.is_first more.is_first refl) more.is_second
     (it.joins ∙ ap (λ m. it.first ++ m) more.joins
     ∙ sym (append_assoc it.first more.first more.second))
 
 pub second_as : {P Q R : List ℕ → Type 0} {l : List ℕ} → ((m : List ℕ) → Q m → R m)
     → Then P Q l → Then P R l
 second_as makes it =
-    joined it.first it.second it.is_first (makes it.second it.is_second) it.joins
+    then_of_parts it.first it.second it.is_first (makes it.second it.is_second) it.joins
 
 pub first_as : {P Q R : List ℕ → Type 0} {l : List ℕ} → ((m : List ℕ) → P m → Q m)
     → Then P R l → Then Q R l
 first_as makes it =
-    joined it.first it.second (makes it.first it.is_first) it.is_second it.joins
+    then_of_parts it.first it.second (makes it.first it.is_first) it.is_second it.joins
 
 -- ---- strings
 
 -- the second unit of a pair, and the rest of the string
 abbrev pub LowTail : List ℕ → Type 0
-LowTail = Then (IsUnit BeginLow) IsStringTail
+LowTail = Then (IsCodeUnit BeginLowSurrogate) IsStringTail
 
 -- the same, after a backslash and u
 abbrev pub LowEscape : List ℕ → Type 0
-LowEscape = Then (IsByte IsBackslash) (Then (IsByte IsU) LowTail)
+LowEscape = Then (IsByte IsBackslash) (Then (IsByte IsLetterU) LowTail)
 
 -- the digits of a character, and the rest of the string
 abbrev pub DigitsTail : List ℕ → Type 0
-DigitsTail = Then IsCharacter IsStringTail
+DigitsTail = Then IsCharacterCode IsStringTail
 
 -- `CompletesPart part text`: `text` is the rest of a string in which this part is to come.
 abbrev pub CompletesPart : Part → List ℕ → Type 0
 CompletesPart parts.Escape text = Then IsEscape IsStringTail text
 CompletesPart parts.Unit text = DigitsTail text
-CompletesPart parts.BehindD text = (d : ℕ) → IsD d → DigitsTail (d ∷ text)
-CompletesPart parts.Three text = (d : ℕ) → IsHexDigit d → (IsD d → ⊥) → DigitsTail (d ∷ text)
-CompletesPart parts.Two text = Then IsTwoDigits IsStringTail text
+CompletesPart parts.AfterSurrogateD text = (d : ℕ) → IsHexDigitD d → DigitsTail (d ∷ text)
+CompletesPart parts.Three text =
+    (d : ℕ) → IsHexDigit d → (IsHexDigitD d → ⊥) → DigitsTail (d ∷ text)
+CompletesPart parts.Two text = Then IsTwoHexDigits IsStringTail text
 CompletesPart parts.One text = Then (IsByte IsHexDigit) IsStringTail text
-CompletesPart parts.HighTwo text = Then IsTwoDigits LowEscape text
+CompletesPart parts.HighTwo text = Then IsTwoHexDigits LowEscape text
 CompletesPart parts.HighOne text = Then (IsByte IsHexDigit) LowEscape text
 CompletesPart parts.Backslash text = LowEscape text
-CompletesPart parts.LetterU text = Then (IsByte IsU) LowTail text
+CompletesPart parts.LetterU text = Then (IsByte IsLetterU) LowTail text
 CompletesPart parts.LowD text = LowTail text
-CompletesPart parts.LowSecond text = (d : ℕ) → IsD d → LowTail (d ∷ text)
+CompletesPart parts.LowSecond text = (d : ℕ) → IsHexDigitD d → LowTail (d ∷ text)
 CompletesPart _ text = IsStringTail text
 
 -- ---- numbers and words
@@ -97,7 +99,7 @@ abbrev pub AfterInteger : List ℕ → Type 0
 AfterInteger = Then (Maybe IsFraction) (Maybe IsExponent)
 
 abbrev pub CompletesFigure : Figure → List ℕ → Type 0
-CompletesFigure figures.Minus = Then IsWhole AfterInteger
+CompletesFigure figures.Minus = Then IsIntegerPart AfterInteger
 CompletesFigure figures.Zero = AfterInteger
 CompletesFigure figures.Whole = Then (All IsDigit) AfterInteger
 CompletesFigure figures.Point = Then IsDigits (Maybe IsExponent)
@@ -126,7 +128,8 @@ IsComma b = b ≡ 44
 -- The rest of an object (`true`) or an array (`false`) after an item.
 abbrev pub IsAfterItem : Bool → (List ℕ → Type 0) → List ℕ → Type 0
 IsAfterItem keyed V =
-    Then IsGap (Either (IsByte (IsClosing keyed)) (Then (IsByte IsComma) (IsItemsTail keyed V)))
+    Then IsWhitespace
+    (Either (IsByte (IsClosing keyed)) (Then (IsByte IsComma) (IsItemsTail keyed V)))
 
 module _ (level : ℕ) where
   -- a value in these brackets
@@ -135,7 +138,7 @@ module _ (level : ℕ) where
 
   abbrev pub CompletesAfter : List Bracket → List ℕ → Type 0
   CompletesAfter [] text = text ≡ []
-  CompletesAfter (kinds.Whole ∷ held) text = IsGap text
+  CompletesAfter (kinds.Whole ∷ held) text = IsWhitespace text
   CompletesAfter (kinds.Array ∷ held) text =
       Then (IsAfterItem false (InBrackets (kinds.Array ∷ held))) (CompletesAfter held) text
   CompletesAfter (kinds.Object ∷ held) text =
@@ -146,10 +149,10 @@ module _ (level : ℕ) where
   CompletesHere held = Then (InBrackets held) (CompletesAfter held)
 
   abbrev pub CompletesValue : List Bracket → List ℕ → Type 0
-  CompletesValue held = Then IsGap (CompletesHere held)
+  CompletesValue held = Then IsWhitespace (CompletesHere held)
 
   abbrev pub CompletesColon : List Bracket → List ℕ → Type 0
-  CompletesColon held = Then IsGap (Then (IsByte IsColon) (CompletesValue held))
+  CompletesColon held = Then IsWhitespace (Then (IsByte IsColon) (CompletesValue held))
 
   abbrev pub CompletesItem : List Bracket → List ℕ → Type 0
   CompletesItem [] text = CompletesValue [] text
@@ -178,4 +181,4 @@ module _ (level : ℕ) where
   Completes (modes.Name part) held = Then (CompletesPart part) (CompletesColon held)
   Completes (modes.Text part) held = Then (CompletesPart part) (CompletesAfter held)
   Completes (modes.Number figure) held = Then (CompletesFigure figure) (CompletesAfter held)
-  Completes (modes.Word letters) held = Then (Only (letters_of letters)) (CompletesAfter held)
+  Completes (modes.Word letters) held = Then (Exactly (letters_of letters)) (CompletesAfter held)

@@ -2,8 +2,8 @@
 use Rattle.std.specs.Prelude.{◌≡◌, ◌↔◌, ◌≤◌, ◌+◌, ◌-◌, ◌++◌, ℕ, List, []}
 use Rattle.std.specs.Prelude.{◌∷◌}
 use Rattle.std.proofs.Common.{ap, arith, subst, sym}
-use Rattle.format_json_pieces.specs.Begun.{IsAfterValue, IsNextStep, IsWalked}
-use Rattle.format_json_pieces.specs.Begun.{last_open, next_step, others_open}
+use Rattle.format_json_pieces.specs.Begun.{HoldsAfterStep, HoldsAfterValue, IsWalked, last_open}
+use Rattle.format_json_pieces.specs.Begun.{next_step, others_open}
 use Rattle.format_json_pieces.specs.Extents.{EndsBefore}
 use Rattle.format_json_pieces.specs.Extents.{IsWalkedTo}
 use Rattle.format_json_pieces.specs.declared.begun.Bracket.{Bracket}
@@ -23,7 +23,7 @@ pub mod Whole
 module _ (level : ℕ) (Q : Mode → List Bracket → List ℕ → Type 0) (before : ℕ → List ℕ → Type 0)
     (ended : List ℕ → Type 0) where
   abbrev Next : List Bracket → ℕ → List ℕ → Step → Type 0
-  Next held b l s = IsNextStep (before b l) (ended l) (λ m o. Q m o l) level held s
+  Next held b l s = HoldsAfterStep (before b l) (ended l) (λ m o. Q m o l) level held s
 
   module _ (into : (m : Mode) (o : List Bracket) (b : ℕ) (l : List ℕ)
       → Next o b l (next_step m (last_open o) b) → Q m o (b ∷ l))
@@ -35,14 +35,14 @@ module _ (level : ℕ) (Q : Mode → List Bracket → List ℕ → Type 0) (befo
 
     module _ (b : ℕ) (front : List ℕ) (on : (m : Mode) (o : List Bracket) → To front m o
         → Q last inner more ↔ Q m o (front ++ more)) where
-      after_on : (held : List Bracket) → IsAfterValue ⊥ (λ m o. To front m o) held
+      after_on : (held : List Bracket) → HoldsAfterValue ⊥ (λ m o. To front m o) held
           → Q last inner more
-          ↔ IsAfterValue (ended (front ++ more)) (λ m o. Q m o (front ++ more)) held
+          ↔ HoldsAfterValue (ended (front ++ more)) (λ m o. Q m o (front ++ more)) held
       after_on [] w = absurd w
       after_on (k ∷ held) w = on modes.After (k ∷ held) w
 
       step_on : (held : List Bracket) (s : Step)
-          → IsNextStep ⊥ ⊥ (λ m o. To front m o) level held s
+          → HoldsAfterStep ⊥ ⊥ (λ m o. To front m o) level held s
           → Q last inner more ↔ Next held b (front ++ more) s
       step_on held steps.Invalid w = absurd w
       step_on held steps.Ended w = absurd w
@@ -92,12 +92,13 @@ to_on final end level last inner more front m o w =
 module _ (level deep : ℕ) (less : level ≤ deep) where
   module _ (b : ℕ) (l : List ℕ) (Q R : Mode → List Bracket → Type 0) (before ended : Type 0)
       (on : (m : Mode) (o : List Bracket) → Q m o → R m o) where
-    deeper_after : (held : List Bracket) → IsAfterValue ended Q held → IsAfterValue ended R held
+    deeper_after : (held : List Bracket) → HoldsAfterValue ended Q held
+        → HoldsAfterValue ended R held
     deeper_after [] x = x
     deeper_after (k ∷ held) x = on modes.After (k ∷ held) x
 
-    deeper_step : (held : List Bracket) (s : Step) → IsNextStep before ended Q level held s
-        → IsNextStep before ended R deep held s
+    deeper_step : (held : List Bracket) (s : Step) → HoldsAfterStep before ended Q level held s
+        → HoldsAfterStep before ended R deep held s
     deeper_step held steps.Invalid x = x
     deeper_step held steps.Ended x = x
     deeper_step held (steps.Goes m) x = on m held x
@@ -129,8 +130,8 @@ module _ (level : ℕ) (rest : List ℕ) where
   ends_before_after : (bytes more : List ℕ) (on : (m : Mode) (o : List Bracket)
       → EndsBefore level m o bytes rest → EndsBefore level m o (bytes ++ more) (rest ++ more))
       → (held : List Bracket)
-      → IsAfterValue (bytes ≡ rest) (λ m o. EndsBefore level m o bytes rest) held
-      → IsAfterValue (bytes ++ more ≡ rest ++ more)
+      → HoldsAfterValue (bytes ≡ rest) (λ m o. EndsBefore level m o bytes rest) held
+      → HoldsAfterValue (bytes ++ more ≡ rest ++ more)
       (λ m o. EndsBefore level m o (bytes ++ more) (rest ++ more)) held
   ends_before_after bytes more on [] x = ap (λ l. l ++ more) x
   ends_before_after bytes more on (k ∷ held) x = on modes.After (k ∷ held) x
@@ -138,9 +139,10 @@ module _ (level : ℕ) (rest : List ℕ) where
   ends_before_step : (b : ℕ) (bytes more : List ℕ) (on : (m : Mode) (o : List Bracket)
       → EndsBefore level m o bytes rest → EndsBefore level m o (bytes ++ more) (rest ++ more))
       → (held : List Bracket) (s : Step)
-      → IsNextStep (b ∷ bytes ≡ rest) (bytes ≡ rest) (λ m o. EndsBefore level m o bytes rest) level
+      → HoldsAfterStep (b ∷ bytes ≡ rest) (bytes ≡ rest)
+      (λ m o. EndsBefore level m o bytes rest) level
       held s
-      → IsNextStep (b ∷ (bytes ++ more) ≡ rest ++ more) (bytes ++ more ≡ rest ++ more)
+      → HoldsAfterStep (b ∷ (bytes ++ more) ≡ rest ++ more) (bytes ++ more ≡ rest ++ more)
       (λ m o. EndsBefore level m o (bytes ++ more) (rest ++ more)) level held s
   ends_before_step b bytes more on held steps.Invalid x = x
   ends_before_step b bytes more on held steps.Ended x = ap (λ l. l ++ more) x

@@ -6,9 +6,9 @@ use Rattle.std.specs.Str.{all_scalars, encode_utf8_all}
 use Rattle.std.proofs.lemmas.List.Elements.{All-head, All-tail}
 use Rattle.std.proofs.lemmas.Str.{encode_ascii}
 use Rattle.format_json_extents.proofs.Characters.{both_true}
-use Rattle.format_json_extents.specs.Texts.{Either, IsByte, List_of, Many, Maybe, Then, before}
-use Rattle.format_json_extents.specs.Texts.{last, nothing, one_more}
-use Rattle.format_json_extents.specs.Value.{Only}
+use Rattle.format_json_extents.specs.Texts.{CommaSeparated, Either, IsByte, Many, Maybe, Then}
+use Rattle.format_json_extents.specs.Texts.{before, last, nothing, one_more}
+use Rattle.format_json_extents.specs.Value.{Exactly}
 pub mod Numbers
 pub mod Strings
 pub mod Values
@@ -22,9 +22,9 @@ pub record Passes (rest : List ℕ) (P A B : List ℕ → Type 0) : Type 0 where
   pub on : (xs cs : List ℕ) → P xs → Spells rest B cs → Spells rest A (xs ++ cs)
 
 -- in front of fewer bytes, more bytes
-pub wider : {rest : List ℕ} {P A B C D : List ℕ → Type 0} → ((l : List ℕ) → C l → B l)
+pub passes_wider : {rest : List ℕ} {P A B C D : List ℕ → Type 0} → ((l : List ℕ) → C l → B l)
     → ((l : List ℕ) → A l → D l) → Passes rest P A B → Passes rest P D C
-wider {rest} from to p = record {
+passes_wider {rest} from to p = record {
   on = λ xs cs is x scalars.
       to (encode_utf8_all (xs ++ cs) ++ rest)
       (p.on xs cs is (λ few. from (encode_utf8_all cs ++ rest) (x few)) scalars);
@@ -80,9 +80,10 @@ module _ (rest : List ℕ) where
         (ascii_spells A B is.byte cs (low is.byte is.is_byte) (makes is.byte is.is_byte) x);
   }
 
-  pub this_pass : {A B : List ℕ → Type 0} (c : ℕ) → c < 128 → ((l : List ℕ) → B l → A (c ∷ l))
+  pub given_byte_passes : {A B : List ℕ → Type 0} (c : ℕ) → c < 128
+      → ((l : List ℕ) → B l → A (c ∷ l))
       → Passes rest (IsByte (λ b. b ≡ c)) A B
-  this_pass {A} {B} c low makes =
+  given_byte_passes {A} {B} c low makes =
       byte_pass (λ b e. subst (λ n. n < 128) (sym e) low)
       (λ b e l x. subst (λ n. A (n ∷ l)) (sym e) (makes l x))
 
@@ -98,10 +99,10 @@ module _ (rest : List ℕ) where
           (on xs cs (All-tail P c xs all) x)
 
   pub list_pass : {P A B : List ℕ → Type 0} → ((l : List ℕ) → A l → B (44 ∷ l))
-      → Passes rest P A B → Passes rest (List_of P) A B
+      → Passes rest P A B → Passes rest (CommaSeparated P) A B
   list_pass {P} {A} {B} comma p = record { on = on }
     where
-      on : (xs cs : List ℕ) → List_of P xs → Spells rest B cs → Spells rest A (xs ++ cs)
+      on : (xs cs : List ℕ) → CommaSeparated P xs → Spells rest B cs → Spells rest A (xs ++ cs)
       on _ cs (last xs is) x = p.on xs cs is x
       on _ cs (before first others xs is more e) x =
           subst (λ l. Spells rest A l)
@@ -117,7 +118,7 @@ module _ (rest : List ℕ) where
       (word_spells (λ l. A (c ∷ l)) B word cs low.1 makes x)
 
   pub word_pass : {A B : List ℕ → Type 0} (word : List ℕ) → AllByRecursion (λ b. b < 128) word
-      → ((l : List ℕ) → B l → A (word ++ l)) → Passes rest (Only word) A B
+      → ((l : List ℕ) → B l → A (word ++ l)) → Passes rest (Exactly word) A B
   word_pass {A} {B} word low makes = record {
     on = λ xs cs e x. subst (λ l. Spells rest A (l ++ cs)) (sym e)
         (word_spells A B word cs low makes x);

@@ -9,7 +9,7 @@ use Rattle.format_json_pieces.proofs.Opened.{kept, kept_last, kept_length}
 use Rattle.format_json_pieces.specs.Begun.{last_open, next_step, others_open}
 use Rattle.format_json_pieces.specs.Place.{BeginsIn, IsPlaceIn, IsWanted, LeadsTo, most_open}
 use Rattle.format_json_pieces.specs.Place.{wanted}
-use Rattle.format_json_pieces.proofs.Walks.{AfterValue, Next, any}
+use Rattle.format_json_pieces.proofs.Walks.{AfterValue, AnyRest, Next}
 use Rattle.format_json_pieces.specs.declared.begun.Bracket.{Bracket}
 use Rattle.format_json_pieces.specs.declared.begun.Mode.{Mode}
 use Rattle.format_json_pieces.specs.declared.begun.Mode.TheVariants as modes
@@ -95,11 +95,11 @@ module _ {level : ℕ} {outer : Option Bracket} {bytes left : List ℕ} {mode : 
   module _ {b : ℕ} {more : List ℕ} (first : left ≡ b ∷ more) where
     -- what comes of the next byte
     led : (s : Step) → s ≡ next_step mode (last_open w.held) b → (l : List ℕ)
-        → Next any (most_open level outer) w.held b l s
+        → Next AnyRest (most_open level outer) w.held b l s
         ↔ BeginsIn level outer ((w.front ++ b ∷ []) ++ l)
     led s is l =
         let P : Step → List ℕ → Type 0 = λ t x.
-        Next any (most_open level outer) w.held b l t
+        Next AnyRest (most_open level outer) w.held b l t
         ↔ BeginsIn level outer x in
         subst (λ t. P t ((w.front ++ b ∷ []) ++ l)) (sym is)
         (subst (λ x. P (next_step mode (last_open w.held) b) x)
@@ -149,7 +149,7 @@ module _ {level : ℕ} {outer : Option Bracket} {bytes left : List ℕ} {mode : 
         (mode, w.held, w.leads, inr (k, sym opens, full, refl))
 
     ended : (s : Step) → s ≡ next_step mode (last_open w.held) b
-        → ((l : List ℕ) → Next any (most_open level outer) w.held b l s)
+        → ((l : List ℕ) → Next AnyRest (most_open level outer) w.held b l s)
         → IsPlaceIn level outer bytes (length bytes) what.End
     ended s is x =
         let on : (l : List ℕ) → BeginsIn level outer (bytes ++ l) =
@@ -170,7 +170,7 @@ module _ {level : ℕ} {outer : Option Bracket} {bytes left : List ℕ} {mode : 
     at_ended is = ended steps.Ended is (λ l. tt)
 
     after_all : (held new : List Bracket) → new ≡ kept held → length new ≡ 0 → (l : List ℕ)
-        → AfterValue any (most_open level outer) held l
+        → AfterValue AnyRest (most_open level outer) held l
     after_all [] new same none l = tt
     after_all (k ∷ held) new same none l =
         absurd (omega (arith, kept_length (k ∷ held), ap (λ l. length l) same, none))
@@ -213,7 +213,7 @@ module _ {level : ℕ} {outer : Option Bracket} {bytes left : List ℕ} {mode : 
 
     -- a value ends in a bracket
     behind : (held new : List Bracket) → new ≡ kept held → (length new ≡ 0 → ⊥) → ((l : List ℕ)
-        → AfterValue any (most_open level outer) held l
+        → AfterValue AnyRest (most_open level outer) held l
         ↔ BeginsIn level outer ((w.front ++ b ∷ []) ++ l))
         → Walked level outer bytes more modes.After new
     behind [] new same some x = absurd (some (ap (λ l. length l) same))

@@ -8,16 +8,17 @@ use Rattle.std.proofs.Common.{length-append}
 use Rattle.std.proofs.lemmas.List.{append-nil, append_cancel_left, nil_from_length}
 use Rattle.std.proofs.lemmas.List.Elements.{All-nil, All-weaker}
 use Rattle.format_json_extents.proofs.Characters.{number_numerals}
-use Rattle.format_json_extents.proofs.Matching.{all_leaves, all_stops}
+use Rattle.format_json_extents.proofs.Matching.{all_stops, rest_after_all}
 use Rattle.format_json_extents.proofs.Values.{value_number, value_starts}
 use Rattle.format_json_extents.proofs.Written.Values.{value_bytes, values_written}
-use Rattle.format_json_extents.specs.Number.{IsNumeral}
-use Rattle.format_json_extents.specs.Value.{IsEnded, IsSpace, IsValue}
+use Rattle.format_json_extents.specs.Number.{IsByteOfNumber}
+use Rattle.format_json_extents.specs.Value.{IsNotContinued, IsValue, IsWhitespaceByte}
 use Rattle.format_json_extents.specs.Texts.{IsLongest, RestAfter}
-use Rattle.format_json_pieces.specs.Results.{Allows, Fails, IsFinal, MatchesAtStart, NoneIsFinal}
-use Rattle.format_json_pieces.specs.Value.{AreNumerals, InUtf8, IsNext, IsValueIn}
+use Rattle.format_json_pieces.specs.Results.{Allows, FailsWithMore, IsFinal, MatchesWithMore}
+use Rattle.format_json_pieces.specs.Results.{NoneIsFinal}
+use Rattle.format_json_pieces.specs.Value.{AreNumerals, InUtf8, IsNextOrNone, IsValueIn}
 use Rattle.format_json_texts.specs.Values.{AnyValue, ValueText}
-use Rattle.format_json_texts.specs.Values.Texts.{IsNumeric, value_of}
+use Rattle.format_json_texts.specs.Values.Texts.{BeginsNumber, value_of}
 use Rattle.format_json_values.specs.Unique.{value_unique}
 use Rattle.format_json_texts.specs.declared.value.Value.{Value}
 use Rattle.stream_sets.specs.AsChar.{IsMultispace}
@@ -31,14 +32,14 @@ use Rattle.format_json_pieces.proofs.ValueLemmas.{value_ends}
 -- a number that may continue
 pub none_final : (level : ℕ) (cut : Bool) (bytes found left : List ℕ)
     → IsLongest (IsValue level) found bytes left
-    → ((text rest : List ℕ) → IsValue level text → bytes ≡ text ++ rest → IsEnded text rest
+    → ((text rest : List ℕ) → IsValue level text → bytes ≡ text ++ rest → IsNotContinued text rest
     → text ≡ found)
-    → (IsEnded found left → (cut ≡ true) × (left ≡ []) × StartsWith IsNumeric found)
+    → (IsNotContinued found left → (cut ≡ true) × (left ≡ []) × StartsWith BeginsNumber found)
     → NoneIsFinal level cut bytes
 none_final level cut bytes found left it only may text rest utf8 is e ended =
     let same = only text rest is e ended in
     let P : List ℕ → List ℕ → Type 0 = λ t r.
-    IsEnded t r → (cut ≡ true) × (r ≡ []) × StartsWith IsNumeric t in
+    IsNotContinued t r → (cut ≡ true) × (r ≡ []) × StartsWith BeginsNumber t in
     let rests = append_cancel_left found left rest
     (sym it.splits ∙ e ∙ ap (λ l. l ++ rest) same) in
     subst (λ r. P text r) rests (subst (λ t. P t left) (sym same) may) ended
@@ -79,7 +80,7 @@ module _ {A : Type 0} (alloc : A) (level : ℕ) where
         omega (arith, most, ap (λ l. length l) e, length-append text left)
 
     pub final_stands : (v : Value A) (rest : List ℕ) → g (chars text) v rest
-        → MatchesAtStart (IsValueIn level) cut bytes v left
+        → MatchesWithMore (IsValueIn level) cut bytes v left
     unfolding IsValueIn InUtf8
     final_stands v rest read more allowed =
         let (utf8, is, e, ended) = it in (
@@ -95,7 +96,7 @@ module _ {A : Type 0} (alloc : A) (level : ℕ) where
   module _ (bytes : List ℕ) (v : Value A) (rest : List ℕ) (it : IsValueIn level bytes v rest) where
     -- the bytes of a value are one
     bytes_of : (text : List ℕ) × IsUtf8 text × IsValue level text × (bytes ≡ text ++ rest)
-        × IsEnded text rest
+        × IsNotContinued text rest
     unfolding IsValueIn InUtf8
     bytes_of =
         let (text, (utf8, written), e, ended) = it in
@@ -110,13 +111,13 @@ module _ {A : Type 0} (alloc : A) (level : ℕ) where
         (λ white. absurd (grind (arith, b.is, white)))
 
     pub open_number : (cut : Bool) → NoneIsFinal level cut bytes
-        → (cut ≡ true) × (rest ≡ []) × All IsNumeral bytes
+        → (cut ≡ true) × (rest ≡ []) × All IsByteOfNumber bytes
     open_number cut none =
         let (text, utf8, is, e, ended) = bytes_of in
         let (partial, nothing, numeric) = none text rest utf8 is e ended in (
           partial,
           nothing,
-          subst (All IsNumeral) (sym (e ∙ ap (λ l. text ++ l) nothing ∙ append-nil text))
+          subst (All IsByteOfNumber) (sym (e ∙ ap (λ l. text ++ l) nothing ∙ append-nil text))
               (number_numerals.each text (value_number level text is numeric)),
         )
 
@@ -141,19 +142,19 @@ abbrev pub HasGap : List ℕ → List ℕ → List ℕ → Type 0
 HasGap bytes gap start =
     (bytes ≡ gap ++ start) × All IsMultispace gap × NotFirst IsMultispace start
 
-pub gap_of : {bytes start : List ℕ} → RestAfter (All IsSpace) IsSpace bytes start
+pub gap_of : {bytes start : List ℕ} → RestAfter (All IsWhitespaceByte) IsWhitespaceByte bytes start
     → (gap : List ℕ) × HasGap bytes gap start
 gap_of {start = start} it = (
   it.stands.text,
   (
     it.stands.splits,
-    All-weaker IsSpace IsMultispace (λ b space. grind (arith, space)) it.stands.text
+    All-weaker IsWhitespaceByte IsMultispace (λ b space. grind (arith, space)) it.stands.text
         it.stands.is,
     first start (all_stops it),
   ),
 )
   where
-    first : (start : List ℕ) → ((b : ℕ) (more : List ℕ) → start ≡ b ∷ more → IsSpace b → ⊥)
+    first : (start : List ℕ) → ((b : ℕ) (more : List ℕ) → start ≡ b ∷ more → IsWhitespaceByte b → ⊥)
         → NotFirst IsMultispace start
     first [] stops = tt
     first (b ∷ more) stops = λ white. stops b more refl (grind (arith, white))
@@ -161,7 +162,7 @@ gap_of {start = start} it = (
 -- the longest whitespace is unique
 gap_ends : (bytes gap start g s : List ℕ) → HasGap bytes gap start → HasGap bytes g s → s ≡ start
 gap_ends bytes gap start g s (e, all, not) (f, each, first) =
-    elim ((all_leaves gap all e stops).only s (record { text = g; is = each; splits = f })) [
+    elim ((rest_after_all gap all e stops).only s (record { text = g; is = each; splits = f })) [
       | inl same ↦ same
       | inr goes ↦ absurd (subst (λ l. NotFirst IsMultispace l) goes.begins first goes.is_byte)
     ]
@@ -172,9 +173,9 @@ gap_ends bytes gap start g s (e, all, not) (f, each, first) =
 module _ {A : Type 0} (alloc : A) (level : ℕ) (bytes gap start : List ℕ)
     (passed : HasGap bytes gap start) where
   pub next_numerals : ((v : Value A) (rest : List ℕ) → IsValueIn level start v rest
-      → (rest ≡ []) × All IsNumeral start) → (v : Value A) (rest : List ℕ)
-      → IsNext level bytes (Some v) rest → (rest ≡ []) × AreNumerals bytes
-  unfolding IsNext
+      → (rest ≡ []) × All IsByteOfNumber start) → (v : Value A) (rest : List ℕ)
+      → IsNextOrNone level bytes (Some v) rest → (rest ≡ []) × AreNumerals bytes
+  unfolding IsNextOrNone
   next_numerals numerals v rest (g, s, each, e, x) =
       let same = gap_ends bytes gap start g s passed
       (e, each, value_first alloc level s v rest x) in
@@ -195,8 +196,8 @@ module _ {A : Type 0} (alloc : A) (level : ℕ) (bytes gap start : List ℕ)
 
   next_none : 0 < length start → (more : List ℕ)
       → NoMatch (IsValueIn {A = A} level) (start ++ more)
-      → NoMatch (IsNext {A = A} level) (bytes ++ more)
-  unfolding IsNext
+      → NoMatch (IsNextOrNone {A = A} level) (bytes ++ more)
+  unfolding IsNextOrNone
   next_none some more none None rest (white, is) =
       let same = gap_ends (bytes ++ more) gap (start ++ more) (bytes ++ more) [] (on some more)
       (sym (append-nil (bytes ++ more)), white, tt) in
@@ -207,7 +208,8 @@ module _ {A : Type 0} (alloc : A) (level : ℕ) (bytes gap start : List ℕ)
       none v rest (subst (λ l. IsValueIn level l v rest) same x)
 
   pub next_fails : (cut : Bool) → 0 < length start → (kind : Kind)
-      → Fails (IsValueIn {A = A} level) cut start kind → Fails (IsNext {A = A} level) cut bytes kind
+      → FailsWithMore (IsValueIn {A = A} level) cut start kind
+      → FailsWithMore (IsNextOrNone {A = A} level) cut bytes kind
   next_fails cut some kind (inl wants) = inl wants
   next_fails cut some kind (inr (inl asks)) = inr (inl asks)
   next_fails cut some kind (inr (inr (backs, none))) =
@@ -215,9 +217,9 @@ module _ {A : Type 0} (alloc : A) (level : ℕ) (bytes gap start : List ℕ)
 
 pub next_stands : {A : Type 0} (level : ℕ) (cut : Bool) (bytes gap start : List ℕ)
     → bytes ≡ gap ++ start → All IsMultispace gap → (v : Value A) (left : List ℕ)
-    → MatchesAtStart (IsValueIn level) cut start v left
-    → MatchesAtStart (IsNext level) cut bytes (Some v) left
-unfolding IsNext
+    → MatchesWithMore (IsValueIn level) cut start v left
+    → MatchesWithMore (IsNextOrNone level) cut bytes (Some v) left
+unfolding IsNextOrNone
 next_stands level cut bytes gap start e all v left stands more allowed = (
   gap,
   start ++ more,
@@ -228,8 +230,8 @@ next_stands level cut bytes gap start e all v left stands more allowed = (
 
 pub none_next : (A : Type 0) (level : ℕ) (cut : Bool) (bytes gap left : List ℕ)
     → bytes ≡ gap ++ left → All IsMultispace gap → length left ≡ 0 → cut ≡ false
-    → MatchesAtStart (IsNext {A = A} level) cut bytes None left
-unfolding IsNext
+    → MatchesWithMore (IsNextOrNone {A = A} level) cut bytes None left
+unfolding IsNextOrNone
 none_next A level cut bytes gap left e all few whole more allowed =
     let none = nil_from_length left few in
     let same : bytes ++ more ≡ gap =
@@ -240,9 +242,9 @@ none_next A level cut bytes gap left e all few whole more allowed =
 -- no value is after whitespace alone
 pub white_numerals : {A : Type 0} (level : ℕ) (left : List ℕ) → length left ≡ 0
     → (v : Value A) (rest : List ℕ) → IsValueIn level left v rest
-    → (rest ≡ []) × All IsNumeral left
+    → (rest ≡ []) × All IsByteOfNumber left
 white_numerals level left few v rest it =
     let (front, e) = value_ends level left v rest it in (
       nil_from_length rest (omega (arith, few, ap (λ l. length l) e, length-append front rest)),
-      subst (All IsNumeral) (sym (nil_from_length left few)) (All-nil IsNumeral),
+      subst (All IsByteOfNumber) (sym (nil_from_length left few)) (All-nil IsByteOfNumber),
     )

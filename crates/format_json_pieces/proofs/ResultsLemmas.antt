@@ -16,21 +16,21 @@ use Rattle.winnow_core.specs.Exact.Whole.{IsNotIncomplete, IsWant}
 use Rattle.grammars.specs.Grammar.{Grammar, NoMatch}
 use Rattle.grammars.specs.Texts.{Text}
 use Rattle.winnow_grammar.specs.Told.{IsTextOf}
-use Rattle.format_json_pieces.specs.Results.{Allows, MatchesAtStart, Fails}
+use Rattle.format_json_pieces.specs.Results.{Allows, MatchesWithMore, FailsWithMore}
 
 -- ---- what a call tells
 
-of_cut : (cut : Bool) (more : List ℕ) → cut ≡ true → Allows cut more
-of_cut cut more is whole = true_is_false (sym is ∙ whole)
+cut_allows_more : (cut : Bool) (more : List ℕ) → cut ≡ true → Allows cut more
+cut_allows_more cut more is whole = true_is_false (sym is ∙ whole)
 
 module _ {E O : Type 0} {kind : E → Kind} (grammar : Grammar ℕ O) (cut : Bool)
     (bytes : List ℕ) where
-  pub stands_told : (o : O) (left : List ℕ) (i j : Input ℕ)
+  pub match_is_told : (o : O) (left : List ℕ) (i j : Input ℕ)
       → ((tokens : List ℕ) (p : O) (rest : List ℕ) → grammar tokens p rest
-      → (front : List ℕ) × (tokens ≡ front ++ rest)) → MatchesAtStart grammar cut bytes o left
+      → (front : List ℕ) × (tokens ≡ front ++ rest)) → MatchesWithMore grammar cut bytes o left
       → i ≡ with_flag (bytes_input bytes) cut → j ≡ with_flag (bytes_input left) cut
       → ReadsOrAsks bytes_reading bytes_follow kind grammar i (Ok o) j
-  stands_told o left i j ends stands from to =
+  match_is_told o left i j ends stands from to =
       let P : Input ℕ → Type 0 =
       λ x. ReadsOrAsks bytes_reading bytes_follow kind grammar x (Ok o) j in
       let Q : Input ℕ → Type 0 = λ y.
@@ -52,15 +52,15 @@ module _ {E O : Type 0} {kind : E → Kind} (grammar : Grammar ℕ O) (cut : Boo
           none = λ whole. tt;
         };
         cut = λ is. record {
-          stands = λ more follows. stands more (of_cut cut more is);
+          stands = λ more follows. stands more (cut_allows_more cut more is);
           none = tt;
         };
       }))
 
-  pub fails_told : (e : E) (i j : Input ℕ) → Fails grammar cut bytes (kind e)
+  pub failure_is_told : (e : E) (i j : Input ℕ) → FailsWithMore grammar cut bytes (kind e)
       → i ≡ with_flag (bytes_input bytes) cut → j ≡ i
       → ReadsOrAsks bytes_reading bytes_follow kind grammar i (Err e) j
-  fails_told e i j fails from to =
+  failure_is_told e i j fails from to =
       let P : Input ℕ → Type 0 =
       λ x. ReadsOrAsks bytes_reading bytes_follow kind grammar x (Err e) x in
       let Q : Input ℕ → Type 0 = λ y.
@@ -86,7 +86,7 @@ module _ {E O : Type 0} {kind : E → Kind} (grammar : Grammar ℕ O) (cut : Boo
             | inr (inl (asks, _)) ↦ inr (inl asks)
             | inr (inr (backs, none)) ↦ inr (inr (λ more follows. (
               backs,
-              none more (of_cut cut more is),
+              none more (cut_allows_more cut more is),
             )))
           ];
         };
@@ -95,10 +95,11 @@ module _ {E O : Type 0} {kind : E → Kind} (grammar : Grammar ℕ O) (cut : Boo
 -- ---- what a whole text is in bytes
 
 module _ {I O X : Type 0} {inner_kind : X → Kind} (text : Text ℕ O) (bytes : List ℕ) where
-  pub broken_told : (fault : ParseFault I X Needed) → IsNotIncomplete fault → (IsUtf8 bytes → ⊥)
+  pub invalid_utf8_is_told : (fault : ParseFault I X Needed) → IsNotIncomplete fault
+      → (IsUtf8 bytes → ⊥)
       → IsTextOf inner_kind (InUtf8 text) bytes (Err fault)
   unfolding InUtf8
-  broken_told fault refused broken =
+  invalid_utf8_is_told fault refused broken =
       record { stands = tt; none = inr (λ o (utf8, written). broken utf8); whole = refused }
 
   module _ {J : Type 0} (seen : List ℕ) (same : seen ≡ bytes) where

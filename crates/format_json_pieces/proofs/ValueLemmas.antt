@@ -7,7 +7,7 @@ use Rattle.format_json_texts.specs.Values.{ValueText}
 use Rattle.format_json_texts.specs.declared.value.Value.{Value}
 use Rattle.stream_sets.specs.Accumulator.Holds.{HasCharacters}
 use Rattle.grammars.specs.Texts.{IsGrammarOf, NotFirst}
-use Rattle.format_json_pieces.specs.Value.{InUtf8, IsValueIn, IsNext}
+use Rattle.format_json_pieces.specs.Value.{InUtf8, IsValueIn, IsNextOrNone}
 
 -- ---- matches are encodings
 
@@ -30,8 +30,8 @@ module _ {A : Type 0} (level : ℕ) where
   value_ends bytes v rest (text, written, e, ended) = (text, e)
 
   pub next_ends : (bytes : List ℕ) (o : Option (Value A)) (rest : List ℕ)
-      → IsNext level bytes o rest → (front : List ℕ) × (bytes ≡ front ++ rest)
-  unfolding IsNext
+      → IsNextOrNone level bytes o rest → (front : List ℕ) × (bytes ≡ front ++ rest)
+  unfolding IsNextOrNone
   next_ends bytes None rest (all, none) =
       (bytes, sym (append-nil bytes) ∙ ap (λ l. bytes ++ l) (sym none))
   next_ends bytes (Some v) rest (gap, start, all, e, x) =

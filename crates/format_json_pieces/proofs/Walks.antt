@@ -1,8 +1,8 @@
 -- The walk over bytes: it ends at one place, and it accepts fewer bytes too.
 use Rattle.std.specs.Prelude.{⊤}
 use Rattle.std.proofs.Common.{◌++◌, ◌∙◌, ◌∷◌, ◌≡◌, [], ℕ, List, sym}
-use Rattle.format_json_pieces.specs.Begun.{IsAfterValue, IsNextStep, IsViablePrefix, IsWalked}
-use Rattle.format_json_pieces.specs.Begun.{last_open, next_step, others_open, value_step}
+use Rattle.format_json_pieces.specs.Begun.{HoldsAfterStep, HoldsAfterValue, IsViablePrefix}
+use Rattle.format_json_pieces.specs.Begun.{IsWalked, last_open, next_step, others_open, value_step}
 use Rattle.format_json_pieces.specs.declared.begun.Bracket.{Bracket}
 use Rattle.format_json_pieces.specs.declared.begun.Mode.{Mode}
 use Rattle.format_json_pieces.specs.declared.begun.Mode.TheVariants as modes
@@ -14,10 +14,10 @@ module _ (ends : List ℕ → Type 0) (level : ℕ) where
   At = IsWalked ends level
 
   abbrev pub Next : List Bracket → ℕ → List ℕ → Step → Type 0
-  Next held b l s = IsNextStep (ends (b ∷ l)) (ends l) (λ m o. At m o l) level held s
+  Next held b l s = HoldsAfterStep (ends (b ∷ l)) (ends l) (λ m o. At m o l) level held s
 
   abbrev pub AfterValue : List Bracket → List ℕ → Type 0
-  AfterValue held l = IsAfterValue (ends l) (λ m o. At m o l) held
+  AfterValue held l = HoldsAfterValue (ends l) (λ m o. At m o l) held
 
   -- a value is to come, in whatever mode
   abbrev pub Started : List Bracket → List ℕ → Type 0
@@ -26,19 +26,19 @@ module _ (ends : List ℕ → Type 0) (level : ℕ) where
 
 -- ---- fewer bytes
 
-abbrev pub any : List ℕ → Type 0
-any rest = ⊤
+abbrev pub AnyRest : List ℕ → Type 0
+AnyRest rest = ⊤
 
 module _ (level : ℕ) where
   module _ (b : ℕ) (bytes l : List ℕ) (fewer : (mode : Mode) (held : List Bracket)
-      → At any level mode held l → At any level mode held bytes) where
-    behind_front : (held : List Bracket) → AfterValue any level held l
-        → AfterValue any level held bytes
+      → At AnyRest level mode held l → At AnyRest level mode held bytes) where
+    behind_front : (held : List Bracket) → AfterValue AnyRest level held l
+        → AfterValue AnyRest level held bytes
     behind_front [] y = tt
     behind_front (k ∷ held) y = fewer modes.After (k ∷ held) y
 
-    next_front : (held : List Bracket) (s : Step) → Next any level held b l s
-        → Next any level held b bytes s
+    next_front : (held : List Bracket) (s : Step) → Next AnyRest level held b l s
+        → Next AnyRest level held b bytes s
     next_front held steps.Invalid y = y
     next_front held steps.Ended y = tt
     next_front held (steps.Goes m) y = fewer m held y
@@ -46,11 +46,11 @@ module _ (level : ℕ) where
     next_front held steps.Closes y = behind_front (others_open held) y
     next_front held steps.Ends y = behind_front held y
 
-  pub begun_front : (bytes more : List ℕ) (mode : Mode) (held : List Bracket)
+  pub viable_prefix_of_viable : (bytes more : List ℕ) (mode : Mode) (held : List Bracket)
       → IsViablePrefix level mode held (bytes ++ more) → IsViablePrefix level mode held bytes
-  begun_front [] more mode held x = tt
-  begun_front (b ∷ bytes) more mode held x =
-      next_front b bytes (bytes ++ more) (λ m o. begun_front bytes more m o) held
+  viable_prefix_of_viable [] more mode held x = tt
+  viable_prefix_of_viable (b ∷ bytes) more mode held x =
+      next_front b bytes (bytes ++ more) (λ m o. viable_prefix_of_viable bytes more m o) held
       (next_step mode (last_open held) b) x
 
 -- a walk has one end
@@ -75,8 +75,10 @@ module _ (level : ℕ) (rest other : List ℕ) where
     step_one held steps.Closes x y = after_one (others_open held) x y
     step_one held steps.Ends x y = after_one held x y
 
-  pub walked_one : (bytes : List ℕ) (mode : Mode) (held : List Bracket) → To rest mode held bytes
+  pub walk_end_unique : (bytes : List ℕ) (mode : Mode) (held : List Bracket)
+      → To rest mode held bytes
       → To other mode held bytes → rest ≡ other
-  walked_one [] mode held x y = sym x ∙ y
-  walked_one (b ∷ bytes) mode held x y =
-      step_one b bytes (λ m o. walked_one bytes m o) held (next_step mode (last_open held) b) x y
+  walk_end_unique [] mode held x y = sym x ∙ y
+  walk_end_unique (b ∷ bytes) mode held x y =
+      step_one b bytes (λ m o. walk_end_unique bytes m o) held
+      (next_step mode (last_open held) b) x y

@@ -7,8 +7,8 @@ use Rattle.std.specs.Prelude.{set, ⊤}
 use Rattle.std.specs.List.{All}
 use Rattle.format_json_extents.specs.Strings.{IsUnescaped}
 use Rattle.format_json_extents.specs.Texts.{MatchesAtStart}
-use Rattle.format_json_extents.specs.Value.{IsGap}
-use Rattle.format_json_pieces.specs.Begun.{IsNextStep, IsViablePrefix, last_open, next_step}
+use Rattle.format_json_extents.specs.Value.{IsWhitespace}
+use Rattle.format_json_pieces.specs.Begun.{HoldsAfterStep, IsViablePrefix, last_open, next_step}
 use Rattle.format_json_pieces.specs.declared.begun.Bracket.{Bracket}
 use Rattle.format_json_pieces.specs.declared.begun.Bracket.TheVariants as kinds
 use Rattle.format_json_pieces.specs.declared.begun.Mode.{Mode}
@@ -31,7 +31,7 @@ use Rattle.format_json_pieces.specs.declared.inside.Part.TheVariants as parts
 abbrev pub IsWalkedTo : ℕ → Mode → List Bracket → List ℕ → Mode → List Bracket → Type 0
 IsWalkedTo level mode held [] last inner = (mode ≡ last) × (held ≡ inner)
 IsWalkedTo level mode held (b ∷ bytes) last inner =
-    IsNextStep ⊥ ⊥ (λ m o. IsWalkedTo level m o bytes last inner) level held
+    HoldsAfterStep ⊥ ⊥ (λ m o. IsWalkedTo level m o bytes last inner) level held
     (next_step mode (last_open held) b)
 
 -- `EndsBefore level mode held bytes rest`: the walk over `bytes` comes to the end of the value, and
@@ -40,7 +40,8 @@ IsWalkedTo level mode held (b ∷ bytes) last inner =
 abbrev pub EndsBefore : ℕ → Mode → List Bracket → List ℕ → List ℕ → Type 0
 EndsBefore level mode held [] rest = ⊥
 EndsBefore level mode held (b ∷ bytes) rest =
-    IsNextStep (b ∷ bytes ≡ rest) (bytes ≡ rest) (λ m o. EndsBefore level m o bytes rest) level held
+    HoldsAfterStep (b ∷ bytes ≡ rest) (bytes ≡ rest) (λ m o. EndsBefore level m o bytes rest)
+    level held
     (next_step mode (last_open held) b)
 
 -- ---- the open brackets, as bytes
@@ -73,9 +74,9 @@ pub record Walked (extent : ValueExtent) (opened bytes left : List ℕ) : Type 0
   pub leads : IsWalkedTo (length opened) modes.Value [] front extent.mode
       (brackets_in opened extent.depth)
 
--- `IsOf extent opened bytes`: the extent, with the open brackets, is of a prefix of `bytes`.
-abbrev pub IsOf : ValueExtent → List ℕ → List ℕ → Type 0
-IsOf extent opened bytes =
+-- `IsExtentOf extent opened bytes`: the extent, with the open brackets, is of a prefix of `bytes`.
+abbrev pub IsExtentOf : ValueExtent → List ℕ → List ℕ → Type 0
+IsExtentOf extent opened bytes =
     (left : List ℕ) × Walked extent opened bytes left × (extent.passed + length left ≡ length bytes)
 
 -- nothing is passed
@@ -129,13 +130,13 @@ EndsWhole level bytes n = (n ≤ length bytes) × EndsAt level (bytes ++ 32 ∷ 
 abbrev pub IsUnfinished : ℕ → List ℕ → Invalid → Type 0
 IsUnfinished level bytes invalid =
     (invalid.reason ≡ reasons.Unfinished) × (invalid.offset ≡ length bytes) × Begins level bytes
-    × ((n : ℕ) → EndsWhole level bytes n → ⊥) × (IsGap bytes → ⊥)
+    × ((n : ℕ) → EndsWhole level bytes n → ⊥) × (IsWhitespace bytes → ⊥)
 
 -- The result for complete input: the length of the whitespace and the value at the start; or `None`
 -- if the bytes are whitespace; or an error.
 abbrev pub WholeResult : ℕ → List ℕ → Result (Option ℕ) Invalid → Type 0
 WholeResult level bytes (Ok (Some n)) = EndsWhole level bytes n
-WholeResult level bytes (Ok None) = IsGap bytes
+WholeResult level bytes (Ok None) = IsWhitespace bytes
 WholeResult level bytes (Err invalid) =
     IsRejected level bytes invalid ⊎ IsUnfinished level bytes invalid
 

@@ -12,7 +12,7 @@ use Rattle.format_json_pieces.specs.declared.inside.Letters.{Letters}
 use Rattle.format_json_pieces.specs.declared.inside.Letters.TheVariants.{Alse, E, L, Ll, Lse, Rue}
 use Rattle.format_json_pieces.specs.declared.inside.Letters.TheVariants.{Se, Ue, Ull}
 use Rattle.format_json_pieces.specs.declared.inside.Part.{Part}
-use Rattle.format_json_pieces.specs.declared.inside.Part.TheVariants.{Backslash, BehindD, Escape}
+use Rattle.format_json_pieces.specs.declared.inside.Part.TheVariants.{Backslash, AfterSurrogateD, Escape}
 use Rattle.format_json_pieces.specs.declared.inside.Part.TheVariants.{HighOne, HighTwo, LetterU}
 use Rattle.format_json_pieces.specs.declared.inside.Part.TheVariants.{LowD, LowSecond, One, Plain}
 use Rattle.format_json_pieces.specs.declared.inside.Part.TheVariants.{TailLast, TailLong}
@@ -22,26 +22,26 @@ use Rattle.format_json_pieces.specs.declared.inside.Part.TheVariants.{TailTwo, T
 
 -- ---- strings
 
-abbrev pub is_hex : ℕ → Bool
-is_hex b =
+abbrev pub is_hex_digit : ℕ → Bool
+is_hex_digit b =
     (nat_le 48 b && nat_le b 57) || ((nat_le 65 b && nat_le b 70) || (nat_le 97 b && nat_le b 102))
 
 -- 8, 9, A or B
-abbrev pub is_high : ℕ → Bool
-is_high b = b == 56 || (b == 57 || (b == 65 || (b == 66 || (b == 97 || b == 98))))
+abbrev pub is_high_surrogate_digit : ℕ → Bool
+is_high_surrogate_digit b = b == 56 || (b == 57 || (b == 65 || (b == 66 || (b == 97 || b == 98))))
 
 -- C, D, E or F
-abbrev pub is_low : ℕ → Bool
-is_low b = (nat_le 67 b && nat_le b 70) || (nat_le 99 b && nat_le b 102)
+abbrev pub is_low_surrogate_digit : ℕ → Bool
+is_low_surrogate_digit b = (nat_le 67 b && nat_le b 70) || (nat_le 99 b && nat_le b 102)
 
 -- what a backslash makes a character with: a quote, itself, /, b, f, n, r or t
-abbrev pub is_short : ℕ → Bool
-is_short b =
+abbrev pub is_escaped_byte : ℕ → Bool
+is_escaped_byte b =
     b == 34 || (b == 92 || (b == 47 || (b == 98 || (b == 102 || (b == 110 || (b == 114
     || b == 116))))))
 
-abbrev pub part_where : Bool → Part → Inner
-part_where test part = if test then inners.Part part else inners.Broken
+abbrev pub part_if : Bool → Part → Inner
+part_if test part = if test then inners.Part part else inners.Broken
 
 -- the first byte of a character above ASCII
 abbrev pub lead_behind : ℕ → Inner
@@ -59,16 +59,16 @@ plain_behind b =
     lead_behind b
 
 abbrev pub escape_behind : ℕ → Inner
-escape_behind b = if b == 117 then inners.Part Unit else part_where (is_short b) Plain
+escape_behind b = if b == 117 then inners.Part Unit else part_if (is_escaped_byte b) Plain
 
 abbrev pub tail_behind : Part → ℕ → Inner
-tail_behind TailOne b = part_where (nat_le 128 b && nat_lt b 192) Plain
-tail_behind TailTwo b = part_where (nat_le 128 b && nat_lt b 192) TailOne
-tail_behind TailThree b = part_where (nat_le 128 b && nat_lt b 192) TailTwo
-tail_behind TailLong b = part_where (nat_le 160 b && nat_lt b 192) TailOne
-tail_behind TailScalar b = part_where (nat_le 128 b && nat_lt b 160) TailOne
-tail_behind TailLonger b = part_where (nat_le 144 b && nat_lt b 192) TailTwo
-tail_behind TailLast b = part_where (nat_le 128 b && nat_lt b 144) TailTwo
+tail_behind TailOne b = part_if (nat_le 128 b && nat_lt b 192) Plain
+tail_behind TailTwo b = part_if (nat_le 128 b && nat_lt b 192) TailOne
+tail_behind TailThree b = part_if (nat_le 128 b && nat_lt b 192) TailTwo
+tail_behind TailLong b = part_if (nat_le 160 b && nat_lt b 192) TailOne
+tail_behind TailScalar b = part_if (nat_le 128 b && nat_lt b 160) TailOne
+tail_behind TailLonger b = part_if (nat_le 144 b && nat_lt b 192) TailTwo
+tail_behind TailLast b = part_if (nat_le 128 b && nat_lt b 144) TailTwo
 tail_behind _ b = inners.Broken
 
 -- what comes of a byte, where this is to come
@@ -76,18 +76,19 @@ abbrev pub part_behind : Part → ℕ → Inner
 part_behind Plain b = plain_behind b
 part_behind Escape b = escape_behind b
 part_behind Unit b =
-    if b == 68 || b == 100 then inners.Part BehindD else part_where (is_hex b) Three
-part_behind BehindD b =
-    if is_high b then inners.Part HighTwo else part_where (is_hex b && not (is_low b)) Two
-part_behind Three b = part_where (is_hex b) Two
-part_behind Two b = part_where (is_hex b) One
-part_behind One b = part_where (is_hex b) Plain
-part_behind HighTwo b = part_where (is_hex b) HighOne
-part_behind HighOne b = part_where (is_hex b) Backslash
-part_behind Backslash b = part_where (b == 92) LetterU
-part_behind LetterU b = part_where (b == 117) LowD
-part_behind LowD b = part_where (b == 68 || b == 100) LowSecond
-part_behind LowSecond b = part_where (is_low b) Two
+    if b == 68 || b == 100 then inners.Part AfterSurrogateD else part_if (is_hex_digit b) Three
+part_behind AfterSurrogateD b =
+    if is_high_surrogate_digit b then inners.Part HighTwo else part_if
+    (is_hex_digit b && not (is_low_surrogate_digit b)) Two
+part_behind Three b = part_if (is_hex_digit b) Two
+part_behind Two b = part_if (is_hex_digit b) One
+part_behind One b = part_if (is_hex_digit b) Plain
+part_behind HighTwo b = part_if (is_hex_digit b) HighOne
+part_behind HighOne b = part_if (is_hex_digit b) Backslash
+part_behind Backslash b = part_if (b == 92) LetterU
+part_behind LetterU b = part_if (b == 117) LowD
+part_behind LowD b = part_if (b == 68 || b == 100) LowSecond
+part_behind LowSecond b = part_if (is_low_surrogate_digit b) Two
 part_behind TailOne b = tail_behind TailOne b
 part_behind TailTwo b = tail_behind TailTwo b
 part_behind TailThree b = tail_behind TailThree b
@@ -98,36 +99,37 @@ part_behind TailLast b = tail_behind TailLast b
 
 -- ---- numbers
 
-abbrev pub is_final : Figure → Bool
-is_final Minus = false
-is_final Zero = true
-is_final Whole = true
-is_final Point = false
-is_final Fraction = true
-is_final Exponent = false
-is_final Sign = false
-is_final Power = true
+abbrev pub may_be_last : Figure → Bool
+may_be_last Minus = false
+may_be_last Zero = true
+may_be_last Whole = true
+may_be_last Point = false
+may_be_last Fraction = true
+may_be_last Exponent = false
+may_be_last Sign = false
+may_be_last Power = true
 
 abbrev pub is_digit : ℕ → Bool
 is_digit b = nat_le 48 b && nat_le b 57
 
-abbrev pub is_e : ℕ → Bool
-is_e b = b == 69 || b == 101
+abbrev pub is_exponent_letter : ℕ → Bool
+is_exponent_letter b = b == 69 || b == 101
 
 -- a digit, a point or an E
-abbrev pub goes_on : ℕ → Bool
-goes_on b = is_digit b || (b == 46 || is_e b)
+abbrev pub continues_number : ℕ → Bool
+continues_number b = is_digit b || (b == 46 || is_exponent_letter b)
 
 -- the state of a number after one more byte, if the byte can continue it
 abbrev pub figure_behind : Figure → ℕ → Option Figure
 figure_behind Minus b = if b == 48 then Some Zero else if is_digit b then Some Whole else None
-figure_behind Zero b = if b == 46 then Some Point else if is_e b then Some Exponent else None
+figure_behind Zero b =
+    if b == 46 then Some Point else if is_exponent_letter b then Some Exponent else None
 figure_behind Whole b =
     if is_digit b then Some Whole else if b == 46 then Some Point else
-    if is_e b then Some Exponent else None
+    if is_exponent_letter b then Some Exponent else None
 figure_behind Point b = if is_digit b then Some Fraction else None
 figure_behind Fraction b =
-    if is_digit b then Some Fraction else if is_e b then Some Exponent else None
+    if is_digit b then Some Fraction else if is_exponent_letter b then Some Exponent else None
 figure_behind Exponent b =
     if b == 43 || b == 45 then Some Sign else if is_digit b then Some Power else None
 figure_behind Sign b = if is_digit b then Some Power else None
@@ -136,16 +138,16 @@ figure_behind Power b = if is_digit b then Some Power else None
 -- ---- words
 
 -- the first of these letters
-abbrev pub expected : Letters → ℕ
-expected Ull = 117
-expected Ll = 108
-expected L = 108
-expected Rue = 114
-expected Ue = 117
-expected E = 101
-expected Alse = 97
-expected Lse = 108
-expected Se = 115
+abbrev pub expected_letter : Letters → ℕ
+expected_letter Ull = 117
+expected_letter Ll = 108
+expected_letter L = 108
+expected_letter Rue = 114
+expected_letter Ue = 117
+expected_letter E = 101
+expected_letter Alse = 97
+expected_letter Lse = 108
+expected_letter Se = 115
 
 -- those after it
 abbrev pub letters_behind : Letters → Option Letters

@@ -4,7 +4,7 @@ use Rattle.std.specs.Prelude.{◌≡◌, ◌⊎◌, ◌↔◌, ◌≤◌, ℕ, s
 use Rattle.std.specs.Prelude.{None, length, ⊤}
 use Rattle.std.specs.Option.{option_to_list}
 use Rattle.format_json_pieces.specs.Begun.{IsViablePrefix, last_open, next_step}
-use Rattle.format_json_pieces.specs.Inside.{expected}
+use Rattle.format_json_pieces.specs.Inside.{expected_letter}
 use Rattle.format_json_pieces.specs.Value.{BeginsText}
 use Rattle.format_json_pieces.specs.declared.begun.Bracket.{Bracket}
 use Rattle.format_json_pieces.specs.declared.begun.Bracket.TheVariants.{Array, Object, Whole}
@@ -38,7 +38,7 @@ wanted_after None = what.End
 abbrev pub wanted_in_string : Part → Expected
 wanted_in_string parts.Plain = what.Character
 wanted_in_string parts.Escape = what.Escape
-wanted_in_string parts.BehindD = what.FirstHalf
+wanted_in_string parts.AfterSurrogateD = what.FirstHalf
 wanted_in_string parts.Backslash = what.SecondHalf
 wanted_in_string parts.LetterU = what.SecondHalf
 wanted_in_string parts.LowD = what.SecondHalf
@@ -67,7 +67,7 @@ wanted After held = wanted_after held
 wanted (Name part) held = wanted_in_string part
 wanted (Text part) held = wanted_in_string part
 wanted (Number figure) held = wanted_in_number figure held
-wanted (Word letters) held = what.Letter (expected letters)
+wanted (Word letters) held = what.Letter (expected_letter letters)
 
 -- ---- the place
 

@@ -12,8 +12,8 @@ use Rattle.format_json_texts.specs.declared.value.Value.{Value}
 use Rattle.grammars.specs.Grammar.{Grammar}
 use Rattle.stream_sets.specs.Accumulator.Holds.{HasCharacters}
 use Rattle.grammars.specs.Texts.{Text}
-use Rattle.format_json_extents.specs.Number.{IsNumeral}
-use Rattle.format_json_extents.specs.Value.{IsEnded}
+use Rattle.format_json_extents.specs.Number.{IsByteOfNumber}
+use Rattle.format_json_extents.specs.Value.{IsNotContinued}
 
 -- `InUtf8 text o bytes`: `bytes` is UTF-8, and its characters encode `o` by `text`.
 unfoldable pub InUtf8 : {O : Type 0} → Text ℕ O → Text ℕ O
@@ -23,7 +23,7 @@ InUtf8 text o bytes = IsUtf8 bytes × text o (chars bytes)
 abbrev pub AreNumerals : List ℕ → Type 0
 AreNumerals bytes =
     (gap : List ℕ) × (left : List ℕ) × All IsMultispace gap × (bytes ≡ gap ++ left)
-    × All IsNumeral left
+    × All IsByteOfNumber left
 
 module _ {A : Type 0} (level : ℕ) where
   -- `IsValueIn bytes v rest`: `bytes` starts with an encoding of `v`, followed by `rest`, and the
@@ -31,12 +31,12 @@ module _ {A : Type 0} (level : ℕ) where
   unfoldable pub IsValueIn : Grammar ℕ (Value A)
   IsValueIn bytes v rest =
       (text : List ℕ) × InUtf8 (ValueText HasCharacters level) v text × (bytes ≡ text ++ rest)
-      × IsEnded text rest
+      × IsNotContinued text rest
 
   -- Whitespace followed by such a value; or only whitespace, and no value.
-  unfoldable pub IsNext : Grammar ℕ (Option (Value A))
-  IsNext bytes None rest = All IsMultispace bytes × (rest ≡ [])
-  IsNext bytes (Some v) rest =
+  unfoldable pub IsNextOrNone : Grammar ℕ (Option (Value A))
+  IsNextOrNone bytes None rest = All IsMultispace bytes × (rest ≡ [])
+  IsNextOrNone bytes (Some v) rest =
       (gap : List ℕ) × (start : List ℕ) × All IsMultispace gap × (bytes ≡ gap ++ start)
       × IsValueIn start v rest
 
@@ -46,7 +46,8 @@ module _ (A : Type 0) (level : ℕ) where
   -- whitespace.
   abbrev pub BeginsValue : List ℕ → Type 0
   BeginsValue bytes =
-      (more : List ℕ) × (v : Value A) × (rest : List ℕ) × IsNext level (bytes ++ more) (Some v) rest
+      (more : List ℕ) × (v : Value A) × (rest : List ℕ)
+      × IsNextOrNone level (bytes ++ more) (Some v) rest
 
   -- `BeginsText bytes`: `bytes` is a prefix of a JSON text in UTF-8, whose arrays and objects are
   -- nested at most `level` deep.

@@ -1,8 +1,8 @@
 //! Whether partial input can continue to the text of a value: by a walk over the bytes, one at a
 //! time, with the brackets that are open.
 ghost use Rattle.format_json_pieces.specs.Begun.{IsLacking, after_step, figure_step, item_step};
-ghost use Rattle.format_json_pieces.specs.Begun.{name_step, is_gap, letters_step, name_part_step};
-ghost use Rattle.format_json_pieces.specs.Begun.{next_step, text_step, value_step};
+ghost use Rattle.format_json_pieces.specs.Begun.{name_step, is_whitespace, letters_step};
+ghost use Rattle.format_json_pieces.specs.Begun.{name_part_step, next_step, text_step, value_step};
 ghost use Rattle.std.specs.Prelude.{◌≡◌};
 
 use crate::inside::{
@@ -70,7 +70,7 @@ pub(crate) enum Step {
 
 /// Whether the byte is whitespace.
 fn is_gap(byte: u8) -> bool
-    ensures { result ≡ is_gap byte }
+    ensures { result ≡ is_whitespace byte }
 {
     byte == b' ' || byte == b'\t' || byte == b'\n' || byte == b'\r'
 }

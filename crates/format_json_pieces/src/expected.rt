@@ -116,7 +116,7 @@ fn wanted_in_string(part: Part) -> Expected
     match part {
         Part::Plain => Expected::Character,
         Part::Escape => Expected::Escape,
-        Part::BehindD => Expected::FirstHalf,
+        Part::AfterSurrogateD => Expected::FirstHalf,
         Part::Backslash | Part::LetterU | Part::LowD | Part::LowSecond => Expected::SecondHalf,
         Part::Unit | Part::Three | Part::Two | Part::One | Part::HighTwo | Part::HighOne => {
             Expected::HexDigit

@@ -5,11 +5,10 @@
 //! [`read_next_in_pieces`](crate::value::read_next_in_pieces) then reads it.
 ghost use Rattle.format_json_extents.specs.Texts.{MatchesAtStart};
 ghost use Rattle.format_json_pieces.specs.Begun.{last_open};
-ghost use Rattle.format_json_pieces.specs.Extents.{ExtentResult, IsClosed, IsNew, IsOf, IsOpened};
-ghost use Rattle.format_json_pieces.specs.Extents.{IsPlain};
-ghost use Rattle.format_json_pieces.specs.Extents.{IsTurn, SkipsIn, SkipsPlain, Walked};
-ghost use Rattle.format_json_pieces.specs.Extents.{WholeResult, Within, bracket_at, brackets_in};
-ghost use Rattle.format_json_pieces.specs.Extents.{byte_of};
+ghost use Rattle.format_json_pieces.specs.Extents.{ExtentResult, IsClosed, IsExtentOf, IsNew};
+ghost use Rattle.format_json_pieces.specs.Extents.{IsOpened, IsPlain, IsTurn, SkipsIn, SkipsPlain};
+ghost use Rattle.format_json_pieces.specs.Extents.{Walked, WholeResult, Within, bracket_at};
+ghost use Rattle.format_json_pieces.specs.Extents.{brackets_in, byte_of};
 ghost use Rattle.std.specs.List.{All};
 ghost use Rattle.std.specs.Prelude.{◌≡◌, ◌≤◌, ◌++◌, ℕ, List, None, Ok, [], length};
 
@@ -141,7 +140,7 @@ impl ValueExtent {
     /// assert!(rt; ValueExtent::new().passed == 0);
     /// ```
     pub fn new() -> ValueExtent
-        ensures of { (brackets bytes : List ℕ) → IsOf result brackets bytes }
+        ensures of { (brackets bytes : List ℕ) → IsExtentOf result brackets bytes }
         ensures is_new { IsNew result }
     {
         ValueExtent {
@@ -234,7 +233,7 @@ impl ValueExtent {
         ensures told { Walked self.old brackets.old bytes.now from.now
             → ExtentResult (length brackets.old) bytes.now result }
         ensures kept { Walked self.old brackets.old bytes.now from.now
-            → (more : List ℕ) → IsOf self.new brackets.new (bytes.now ++ more) }
+            → (more : List ℕ) → IsExtentOf self.new brackets.new (bytes.now ++ more) }
         ensures all { result ≡ Ok None → self.new.passed ≡ length bytes.now }
         ensures again { (result ≡ Ok None → ⊥) → IsNew self.new }
         ensures within { Within (length bytes.now) result }
@@ -307,11 +306,11 @@ impl ValueExtent {
     /// assert!(rt; matches!(extent.finish(&mut brackets, &bytes[16..]), Ok(Some(2))));
     /// ```
     pub fn advance(&mut self, brackets: &mut [u8], bytes: &[u8]) -> Result<Option<usize>, Invalid>
-        ensures told { IsOf self.old brackets.old bytes.now
+        ensures told { IsExtentOf self.old brackets.old bytes.now
             → ExtentResult (length brackets.old) bytes.now result }
-        ensures kept { IsOf self.old brackets.old bytes.now
-            → (more : List ℕ) → IsOf self.new brackets.new (bytes.now ++ more) }
-        ensures all { IsOf self.old brackets.old bytes.now → result ≡ Ok None
+        ensures kept { IsExtentOf self.old brackets.old bytes.now
+            → (more : List ℕ) → IsExtentOf self.new brackets.new (bytes.now ++ more) }
+        ensures all { IsExtentOf self.old brackets.old bytes.now → result ≡ Ok None
             → self.new.passed ≡ length bytes.now }
         ensures again { (result ≡ Ok None → ⊥) → IsNew self.new }
         ensures within { Within (length bytes.now) result }
@@ -343,7 +342,7 @@ impl ValueExtent {
     ///     Err(invalid) if invalid.reason == Reason::Unfinished));
     /// ```
     pub fn finish(&mut self, brackets: &mut [u8], bytes: &[u8]) -> Result<Option<usize>, Invalid>
-        ensures told { IsOf self.old brackets.old bytes.now
+        ensures told { IsExtentOf self.old brackets.old bytes.now
             → WholeResult (length brackets.old) bytes.now result }
         ensures again { IsNew self.new }
         ensures within { Within (length bytes.now) result }

@@ -1,8 +1,9 @@
 //! State machines for the bytes inside a string, a number and a word.
-ghost use Rattle.format_json_pieces.specs.Inside.{escape_behind, expected, figure_behind, goes_on};
-ghost use Rattle.format_json_pieces.specs.Inside.{is_final, is_hex, is_high, is_low, is_short};
-ghost use Rattle.format_json_pieces.specs.Inside.{lead_behind, letters_behind, part_behind};
-ghost use Rattle.format_json_pieces.specs.Inside.{part_where, plain_behind, tail_behind};
+ghost use Rattle.format_json_pieces.specs.Inside.{continues_number, escape_behind, expected_letter};
+ghost use Rattle.format_json_pieces.specs.Inside.{figure_behind, is_escaped_byte, is_hex_digit};
+ghost use Rattle.format_json_pieces.specs.Inside.{is_high_surrogate_digit, is_low_surrogate_digit};
+ghost use Rattle.format_json_pieces.specs.Inside.{lead_behind, letters_behind, may_be_last};
+ghost use Rattle.format_json_pieces.specs.Inside.{part_behind, part_if, plain_behind, tail_behind};
 ghost use Rattle.std.specs.Prelude.{◌≡◌};
 
 /// The input that is expected next in a string.
@@ -15,7 +16,7 @@ pub enum Part {
     /// The first of four hexadecimal digits.
     Unit,
     /// The second, where the first is a D: the unit may be a surrogate.
-    BehindD,
+    AfterSurrogateD,
     /// Three digits more.
     Three,
     /// Two digits more.
@@ -63,7 +64,7 @@ pub(crate) enum Inner {
 
 /// Whether the byte is a hexadecimal digit.
 fn is_hex(byte: u8) -> bool
-    ensures { result ≡ is_hex byte }
+    ensures { result ≡ is_hex_digit byte }
 {
     (b'0' <= byte && byte <= b'9')
         || (b'A' <= byte && byte <= b'F')
@@ -72,21 +73,21 @@ fn is_hex(byte: u8) -> bool
 
 /// Whether the byte is the second digit of the first surrogate of a pair: 8, 9, A or B.
 fn is_high(byte: u8) -> bool
-    ensures { result ≡ is_high byte }
+    ensures { result ≡ is_high_surrogate_digit byte }
 {
     byte == b'8' || byte == b'9' || byte == b'A' || byte == b'B' || byte == b'a' || byte == b'b'
 }
 
 /// Whether the byte is the second digit of the second surrogate of a pair: C, D, E or F.
 fn is_low(byte: u8) -> bool
-    ensures { result ≡ is_low byte }
+    ensures { result ≡ is_low_surrogate_digit byte }
 {
     (b'C' <= byte && byte <= b'F') || (b'c' <= byte && byte <= b'f')
 }
 
 /// Whether a backslash and the byte stand for a character.
 fn is_short(byte: u8) -> bool
-    ensures { result ≡ is_short byte }
+    ensures { result ≡ is_escaped_byte byte }
 {
     byte == b'"'
         || byte == b'\\'
@@ -125,7 +126,7 @@ fn lead_behind(byte: u8) -> Inner
 
 /// This part where the test holds.
 fn part_where(test: bool, part: Part) -> Inner
-    ensures { result ≡ part_where test part }
+    ensures { result ≡ part_if test part }
 {
     if test {
         Inner::Part(part)
@@ -185,10 +186,10 @@ pub(crate) fn part_behind(part: Part, byte: u8) -> Inner
     match part {
         Part::Plain => plain_behind(byte),
         Part::Escape => escape_behind(byte),
-        Part::Unit if byte == b'D' || byte == b'd' => Inner::Part(Part::BehindD),
+        Part::Unit if byte == b'D' || byte == b'd' => Inner::Part(Part::AfterSurrogateD),
         Part::Unit => part_where(is_hex(byte), Part::Three),
-        Part::BehindD if is_high(byte) => Inner::Part(Part::HighTwo),
-        Part::BehindD => part_where(is_hex(byte) && !is_low(byte), Part::Two),
+        Part::AfterSurrogateD if is_high(byte) => Inner::Part(Part::HighTwo),
+        Part::AfterSurrogateD => part_where(is_hex(byte) && !is_low(byte), Part::Two),
         Part::Three => part_where(is_hex(byte), Part::Two),
         Part::Two => part_where(is_hex(byte), Part::One),
         Part::One => part_where(is_hex(byte), Part::Plain),
@@ -225,7 +226,7 @@ pub enum Figure {
 
 /// Whether a number may end there.
 pub(crate) fn is_final(figure: Figure) -> bool
-    ensures { result ≡ is_final figure }
+    ensures { result ≡ may_be_last figure }
 {
     match figure {
         Figure::Zero | Figure::Whole | Figure::Fraction | Figure::Power => true,
@@ -235,7 +236,7 @@ pub(crate) fn is_final(figure: Figure) -> bool
 
 /// Returns whether the byte can continue a number: a digit, a point or an E.
 pub(crate) fn goes_on(byte: u8) -> bool
-    ensures { result ≡ goes_on byte }
+    ensures { result ≡ continues_number byte }
 {
     (b'0' <= byte && byte <= b'9') || byte == b'.' || byte == b'E' || byte == b'e'
 }
@@ -284,7 +285,7 @@ pub enum Letters {
 
 /// The first of these letters.
 pub(crate) fn expected(letters: Letters) -> u8
-    ensures { result ≡ expected letters }
+    ensures { result ≡ expected_letter letters }
 {
     match letters {
         Letters::Ull | Letters::Ue => b'u',

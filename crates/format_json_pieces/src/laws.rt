@@ -1,6 +1,6 @@
 //! Laws that relate the scanner of [`extent`](crate::extent) to the values of RFC 8259.
 ghost use Rattle.format_json_pieces.specs.Extents.{Begins, EndsBefore};
-ghost use Rattle.format_json_pieces.specs.Value.{BeginsValue, IsNext};
+ghost use Rattle.format_json_pieces.specs.Value.{BeginsValue, IsNextOrNone};
 ghost use Rattle.format_json_pieces.specs.declared.begun.Mode.TheVariants as modes;
 ghost use Rattle.format_json_texts.specs.declared.value.Value.{Value};
 ghost use Rattle.std.specs.Prelude.{◌≡◌, ◌<◌, ◌^◌, ◌++◌, ◌∷◌, ℕ, List, Some, [], length};
@@ -21,7 +21,7 @@ use std::alloc::Allocator;
 /// ```
 pub fn each_value_is_found<A: Allocator>()
     ensures { (level : ℕ) (bytes : List ℕ) (v : Value A) (rest : List ℕ)
-        → IsNext level bytes (Some v) rest
+        → IsNextOrNone level bytes (Some v) rest
         → EndsBefore level modes.Value [] (bytes ++ 32 ∷ []) (rest ++ 32 ∷ []) }
 {}
 
@@ -39,7 +39,7 @@ pub fn each_value_is_found<A: Allocator>()
 pub fn no_value_ends_elsewhere<A: Allocator>()
     ensures { (level : ℕ) (bytes rest more : List ℕ)
         → EndsBefore level modes.Value [] bytes rest → (v : Value A) (other : List ℕ)
-        → IsNext level (bytes ++ more) (Some v) other → other ≡ rest ++ more }
+        → IsNextOrNone level (bytes ++ more) (Some v) other → other ≡ rest ++ more }
 {}
 
 /// All that the scanner finds is a value: if it stops before `rest`, the bytes before are
@@ -59,7 +59,7 @@ pub fn no_value_ends_elsewhere<A: Allocator>()
 pub fn what_is_found_is_a_value<A: Allocator>()
     ensures { (alloc : A) (level : ℕ) (bytes rest : List ℕ) → length bytes < 2 ^ 63
         → EndsBefore level modes.Value [] bytes rest
-        → (v : Value A) × IsNext level bytes (Some v) rest }
+        → (v : Value A) × IsNextOrNone level bytes (Some v) rest }
 {}
 
 /// Bytes are accepted by the scanner if and only if they are a prefix of bytes that start with a

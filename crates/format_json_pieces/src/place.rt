@@ -1,5 +1,5 @@
 //! The first offset at which a scan of a JSON text rejects a byte.
-ghost use Rattle.format_json_pieces.specs.Begun.{MayBegin};
+ghost use Rattle.format_json_pieces.specs.Begun.{IsViableText};
 ghost use Rattle.format_json_pieces.specs.Place.{IsLongestPrefix, IsPlace, IsPlaceIn};
 ghost use Rattle.format_json_pieces.specs.Value.{BeginsText};
 ghost use Rattle.format_json_pieces.specs.declared.expected.Expected.{Expected};
@@ -147,9 +147,9 @@ fn end_of(bytes: &[u8]) -> Place
 /// ```
 pub fn prefixes_are_those_of_texts<A: Allocator>()
     ensures there { (alloc : A) (level : ℕ) (bytes : List ℕ) → length bytes < 2 ^ 61
-        → MayBegin level bytes → BeginsText A level bytes }
+        → IsViableText level bytes → BeginsText A level bytes }
     ensures back { (level : ℕ) (bytes : List ℕ) → BeginsText A level bytes
-        → MayBegin level bytes }
+        → IsViableText level bytes }
 {}
 
 /// The bytes before the offset of [`first_place`] are the longest prefix that is one of a JSON text

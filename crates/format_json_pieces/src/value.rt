@@ -1,15 +1,15 @@
 //! JSON values (RFC 8259) at the start of bytes, and JSON texts in bytes.
 ghost use Rattle.format_json_pieces.specs.Begun.{IsViablePrefix};
-ghost use Rattle.format_json_pieces.specs.Results.{Allows, Fails, IsFinal, MatchesAtStart};
+ghost use Rattle.format_json_pieces.specs.Results.{Allows, FailsWithMore, IsFinal, MatchesWithMore};
 ghost use Rattle.format_json_pieces.specs.Results.{NoneIsFinal};
-ghost use Rattle.format_json_extents.specs.Number.{IsNumeral};
-ghost use Rattle.format_json_extents.specs.Value.{IsEnded};
-ghost use Rattle.format_json_pieces.specs.Value.{AreNumerals, HasInner, InUtf8, IsNext};
+ghost use Rattle.format_json_extents.specs.Number.{IsByteOfNumber};
+ghost use Rattle.format_json_extents.specs.Value.{IsNotContinued};
+ghost use Rattle.format_json_pieces.specs.Value.{AreNumerals, HasInner, InUtf8, IsNextOrNone};
 ghost use Rattle.format_json_pieces.specs.Value.{IsRefusedAt, IsValueIn};
 ghost use Rattle.format_json_pieces.specs.declared.begun.Mode.TheVariants as modes;
 ghost use Rattle.format_json_texts.specs.Number.{ContinuesNumber};
 ghost use Rattle.format_json_texts.specs.Values.{JsonText, ValueText};
-ghost use Rattle.format_json_texts.specs.Values.Texts.{IsNumeric};
+ghost use Rattle.format_json_texts.specs.Values.Texts.{BeginsNumber};
 ghost use Rattle.std.specs.List.{All};
 ghost use Rattle.std.specs.Prelude.{◌≡◌, ◌≤◌, ◌↔◌, ◌++◌, ℕ, List, length, false, true, IfErr};
 ghost use Rattle.std.specs.Prelude.{IfNone, IfOk, IfSome, IsTrue, Some, []};
@@ -46,9 +46,9 @@ use streams::stream::{Stream, StreamIsPartial};
 /// (`cut`).
 fn is_ended(text: &[u8], left: &[u8], cut: bool) -> bool
     ensures yes { IsTrue result → (more : List ℕ) → Allows cut more
-        → IsEnded text.now (left.now ++ more) }
-    ensures no { result ≡ false → IsEnded text.now left.now
-        → (cut ≡ true) × (left.now ≡ []) × StartsWith IsNumeric text.now }
+        → IsNotContinued text.now (left.now ++ more) }
+    ensures no { result ≡ false → IsNotContinued text.now left.now
+        → (cut ≡ true) × (left.now ≡ []) × StartsWith BeginsNumber text.now }
 {
     match text.split_first() {
         Some((first, _)) if *first == b'-' || first.is_ascii_digit() => match left.split_first() {
@@ -94,12 +94,12 @@ fn value_in<'i, A: Allocator + Copy>(
     bytes: &'i [u8],
     cut: bool,
 ) -> Result<(Value<A>, &'i [u8]), ErrMode<EmptyError>>
-    ensures value { IfOk result (λ r. MatchesAtStart (IsValueIn level) cut bytes.now r.0 r.1.now) }
-    ensures none { IfErr result (λ e. Fails (IsValueIn {A = A} level) cut bytes.now
+    ensures value { IfOk result (λ r. MatchesWithMore (IsValueIn level) cut bytes.now r.0 r.1.now) }
+    ensures none { IfErr result (λ e. FailsWithMore (IsValueIn {A = A} level) cut bytes.now
         (⟦<ErrMode<EmptyError> as HasKind>⟧.kind e)) }
     ensures asks { IfErr result (λ e. Asks (⟦<ErrMode<EmptyError> as HasKind>⟧.kind e)
         → (v : Value A) (rest : List ℕ) → IsValueIn level bytes.now v rest
-        → (rest ≡ []) × All IsNumeral bytes.now) }
+        → (rest ≡ []) × All IsByteOfNumber bytes.now) }
     ensures begun { IfErr result (λ e. Asks (⟦<ErrMode<EmptyError> as HasKind>⟧.kind e)
         → IsViablePrefix level modes.Value [] bytes.now) }
     ensures gap { IfErr result (λ e. Asks (⟦<ErrMode<EmptyError> as HasKind>⟧.kind e)
@@ -129,11 +129,12 @@ fn next_in<'i, A: Allocator + Copy>(
     bytes: &'i [u8],
     cut: bool,
 ) -> Result<(Option<Value<A>>, &'i [u8]), ErrMode<EmptyError>>
-    ensures value { IfOk result (λ r. MatchesAtStart (IsNext level) cut bytes.now r.0 r.1.now) }
-    ensures none { IfErr result (λ e. Fails (IsNext {A = A} level) cut bytes.now
+    ensures value { IfOk result
+        (λ r. MatchesWithMore (IsNextOrNone level) cut bytes.now r.0 r.1.now) }
+    ensures none { IfErr result (λ e. FailsWithMore (IsNextOrNone {A = A} level) cut bytes.now
         (⟦<ErrMode<EmptyError> as HasKind>⟧.kind e)) }
     ensures asks { IfErr result (λ e. Asks (⟦<ErrMode<EmptyError> as HasKind>⟧.kind e)
-        → (v : Value A) (rest : List ℕ) → IsNext level bytes.now (Some v) rest
+        → (v : Value A) (rest : List ℕ) → IsNextOrNone level bytes.now (Some v) rest
         → (rest ≡ []) × AreNumerals bytes.now) }
     ensures begun { IfErr result (λ e. Asks (⟦<ErrMode<EmptyError> as HasKind>⟧.kind e)
         → IsViablePrefix level modes.Value [] bytes.now) }
@@ -201,7 +202,7 @@ pub fn read_value_in_pieces<'i, A: Allocator + Copy>(
     ensures asks { IfErr result (λ e. Asks (⟦<ErrMode<EmptyError> as HasKind>⟧.kind e)
         → (v : Value A) (rest : List ℕ) → IsValueIn level
         (⟦<Partial<&'static [u8]> as Stream>⟧.view input.old).left.tokens v rest → (rest ≡ [])
-        × All IsNumeral (⟦<Partial<&'static [u8]> as Stream>⟧.view input.old).left.tokens) }
+        × All IsByteOfNumber (⟦<Partial<&'static [u8]> as Stream>⟧.view input.old).left.tokens) }
     ensures begun { IfErr result (λ e. Asks (⟦<ErrMode<EmptyError> as HasKind>⟧.kind e)
         → IsViablePrefix level modes.Value []
         (⟦<Partial<&'static [u8]> as Stream>⟧.view input.old).left.tokens) }
@@ -252,10 +253,10 @@ pub fn read_next_in_pieces<'i, A: Allocator + Copy>(
     input: &mut Partial<&'i [u8]>,
 ) -> Result<Option<Value<A>>, ErrMode<EmptyError>>
     ensures told { ReadsOrAsks bytes_reading bytes_follow ⟦<ErrMode<EmptyError> as HasKind>⟧.kind
-        (IsNext level) (⟦<Partial<&'static [u8]> as Stream>⟧.view input.old) result
+        (IsNextOrNone level) (⟦<Partial<&'static [u8]> as Stream>⟧.view input.old) result
         (⟦<Partial<&'static [u8]> as Stream>⟧.view input.new) }
     ensures asks { IfErr result (λ e. Asks (⟦<ErrMode<EmptyError> as HasKind>⟧.kind e)
-        → (v : Value A) (rest : List ℕ) → IsNext level
+        → (v : Value A) (rest : List ℕ) → IsNextOrNone level
         (⟦<Partial<&'static [u8]> as Stream>⟧.view input.old).left.tokens (Some v) rest
         → (rest ≡ [])
         × AreNumerals (⟦<Partial<&'static [u8]> as Stream>⟧.view input.old).left.tokens) }

@@ -5,18 +5,18 @@ use Rattle.std.proofs.Common.{ap, arith, inl, inr, length, refl, subst, sym}
 use Rattle.std.specs.Char.{digit_value}
 use Rattle.std.specs.List.{AllByRecursion}
 use Rattle.std.specs.Str.Parse.{digits_value, digits_value_after}
-use Rattle.format_json_texts.proofs.Going.{digits_stay_long, same_first, same_others}
+use Rattle.format_json_texts.proofs.Going.{digits_stay_long, heads_equal, tails_equal}
 use Rattle.format_json_texts.specs.NumberParts.{AreDigits, IsDigit, IsExponent, IsFraction}
 use Rattle.format_json_texts.specs.NumberParts.{IsWritten, Number, sign_text}
-use Rattle.format_json_texts.specs.Digits.{Continues, IsReduced, IsTooLong}
+use Rattle.format_json_texts.specs.Digits.{ContinuesDigits, IsReduced, IsTooLong}
 
 -- ---- the sign
 
 pub minus_there : (negative : Bool) (whole tail more : List ℕ) → AreDigits whole
     → 45 ∷ more ≡ sign_text negative ++ (whole ++ tail) → (true ≡ negative) × (more ≡ whole ++ tail)
-minus_there true whole tail more are e = (refl, same_others e)
+minus_there true whole tail more are e = (refl, tails_equal e)
 minus_there false [] tail more are e = absurd (omega (arith, are.0))
-minus_there false (d ∷ ds) tail more are e = absurd (omega (arith, same_first e, are.1.0))
+minus_there false (d ∷ ds) tail more are e = absurd (omega (arith, heads_equal e, are.1.0))
 
 -- ---- the digits
 
@@ -25,7 +25,7 @@ no_digit_first : (exponent : List ℕ) (power : _) → IsExponent exponent power
 no_digit_first exponent power (inl none) b more e is =
     absurd (omega (arith, ap (λ (l : List ℕ). length l) (sym none.0 ∙ e)))
 no_digit_first exponent power (inr p) b more e is =
-    by p.is_letter (same_first (sym p.joins ∙ e)) is
+    by p.is_letter (heads_equal (sym p.joins ∙ e)) is
   where
     by : (p.letter ≡ 101) ⊎ (p.letter ≡ 69) → p.letter ≡ b → (IsDigit b ⊎ (b ≡ 46)) → ⊥
     by (inl l) same (inl is) = omega (arith, l, same, is)
@@ -35,7 +35,7 @@ no_digit_first exponent power (inr p) b more e is =
 
 pub whole_goes : (text : List ℕ) (n : Number) (is : IsWritten text n) (bytes : List ℕ)
     → bytes ≡ n.whole ++ (is.point ++ is.exponent)
-    → Continues 0 bytes (digits_value 10 n.whole) (is.point ++ is.exponent)
+    → ContinuesDigits 0 bytes (digits_value 10 n.whole) (is.point ++ is.exponent)
 whole_goes text n is bytes joins = record {
   digits = n.whole;
   are_digits = is.is_whole.0.1;
@@ -50,7 +50,7 @@ whole_goes text n is bytes joins = record {
         no_digit_first is.exponent n.power is.is_exponent b more
         (sym (ap (λ l. l ++ is.exponent) none.0) ∙ e) (inl digit)
     ends point (inr some) b more e digit =
-        let first : 46 ≡ b = same_first (sym (ap (λ l. l ++ is.exponent) some.0) ∙ e) in
+        let first : 46 ≡ b = heads_equal (sym (ap (λ l. l ++ is.exponent) some.0) ∙ e) in
         omega (arith, first, digit)
 
 digits_joined : (n : ℕ) (xs ys : List ℕ)
@@ -61,13 +61,13 @@ digits_joined n (x ∷ xs) ys = digits_joined (n * 10 + digit_value x) xs ys
 pub fraction_goes : (text : List ℕ) (n : Number) (is : IsWritten text n) (rest digits : List ℕ)
     → rest ≡ is.point ++ is.exponent → rest ≡ 46 ∷ digits
     → (digits ≡ n.fraction ++ is.exponent)
-    × Continues (digits_value 10 n.whole) digits (digits_value 10 (n.whole ++ n.fraction))
+    × ContinuesDigits (digits_value 10 n.whole) digits (digits_value 10 (n.whole ++ n.fraction))
     is.exponent
 fraction_goes text n is rest digits joins begins = by is.is_fraction
   where
     by : IsFraction is.point n.fraction
         → (digits ≡ n.fraction ++ is.exponent)
-        × Continues (digits_value 10 n.whole) digits (digits_value 10 (n.whole ++ n.fraction))
+        × ContinuesDigits (digits_value 10 n.whole) digits (digits_value 10 (n.whole ++ n.fraction))
         is.exponent
     by (inl none) =
         let e : is.exponent ≡ 46 ∷ digits =
@@ -75,7 +75,7 @@ fraction_goes text n is rest digits joins begins = by is.is_fraction
         absurd (no_digit_first is.exponent n.power is.is_exponent 46 digits e (inr refl))
     by (inr some) =
         let there : digits ≡ n.fraction ++ is.exponent =
-        same_others (sym begins ∙ joins ∙ ap (λ l. l ++ is.exponent) some.0) in (
+        tails_equal (sym begins ∙ joins ∙ ap (λ l. l ++ is.exponent) some.0) in (
           there,
           record {
             digits = n.fraction;

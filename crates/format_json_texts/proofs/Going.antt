@@ -9,15 +9,15 @@ use Rattle.std.specs.List.{AllByRecursion}
 use Rattle.std.specs.Str.Parse.{digits_value_after}
 use Rattle.format_json_texts.proofs.Tens.{push_too_long, push_zero}
 use Rattle.format_json_texts.specs.NumberParts.{IsDigit}
-use Rattle.format_json_texts.specs.Digits.{Continues, IsReduced, IsTooLong}
+use Rattle.format_json_texts.specs.Digits.{ContinuesDigits, IsReduced, IsTooLong}
 
-pub same_first : {x y : ℕ} {xs ys : List ℕ} → x ∷ xs ≡ y ∷ ys → x ≡ y
-same_first e = cc
+pub heads_equal : {x y : ℕ} {xs ys : List ℕ} → x ∷ xs ≡ y ∷ ys → x ≡ y
+heads_equal e = cc
 
-pub same_others : {x y : ℕ} {xs ys : List ℕ} → x ∷ xs ≡ y ∷ ys → xs ≡ ys
-same_others e = cc
+pub tails_equal : {x y : ℕ} {xs ys : List ℕ} → x ∷ xs ≡ y ∷ ys → xs ≡ ys
+tails_equal e = cc
 
-pub stops_here : (n total : ℕ) (bytes rest : List ℕ) → Continues n bytes total rest
+pub stops_here : (n total : ℕ) (bytes rest : List ℕ) → ContinuesDigits n bytes total rest
     → ((b : ℕ) (more : List ℕ) → bytes ≡ b ∷ more → IsDigit b → ⊥)
     → (bytes ≡ rest) × (total ≡ n)
 stops_here n total bytes rest c none = by c.digits c.are_digits c.joins c.makes
@@ -27,21 +27,21 @@ stops_here n total bytes rest c none = by c.digits c.are_digits c.joins c.makes
     by [] are joins makes = (joins, makes)
     by (d ∷ ds) are joins makes = absurd (none d (ds ++ rest) joins are.0)
 
-pub goes_on : (n total b : ℕ) (bytes more rest : List ℕ) → Continues n bytes total rest
-    → bytes ≡ b ∷ more → IsDigit b → Continues (n * 10 + (b - 48)) more total rest
+pub goes_on : (n total b : ℕ) (bytes more rest : List ℕ) → ContinuesDigits n bytes total rest
+    → bytes ≡ b ∷ more → IsDigit b → ContinuesDigits (n * 10 + (b - 48)) more total rest
 goes_on n total b bytes more rest c begins is = by c.digits c.are_digits c.joins c.makes
   where
     by : (ds : List ℕ) → AllByRecursion IsDigit ds → bytes ≡ ds ++ rest
-        → total ≡ digits_value_after 10 n ds → Continues (n * 10 + (b - 48)) more total rest
+        → total ≡ digits_value_after 10 n ds → ContinuesDigits (n * 10 + (b - 48)) more total rest
     by [] are joins makes = absurd (c.ends b more (sym joins ∙ begins) is)
     by (d ∷ ds) are joins makes =
-        let e : b ≡ d = same_first (sym begins ∙ joins) in
+        let e : b ≡ d = heads_equal (sym begins ∙ joins) in
         let same : n * 10 + digit_value d ≡ n * 10 + (b - 48) =
         omega (arith, digit_value_digit d are.0, e) in
         record {
           digits = ds;
           are_digits = are.1;
-          joins = same_others (sym begins ∙ joins);
+          joins = tails_equal (sym begins ∙ joins);
           makes = makes ∙ ap (λ k. digits_value_after 10 k ds) same;
           ends = c.ends;
         }
@@ -62,7 +62,8 @@ digits_stay_long n (d ∷ ds) are long =
     digits_stay_long (n * 10 + digit_value d) ds are.1
     (longer n (digit_value d) (omega (arith, digit_value_digit d are.0, are.0)) long)
 
-pub stays_long : (n total : ℕ) (bytes rest : List ℕ) → Continues n bytes total rest → IsTooLong n
+pub stays_long : (n total : ℕ) (bytes rest : List ℕ) → ContinuesDigits n bytes total rest
+    → IsTooLong n
     → IsTooLong total
 stays_long n total bytes rest c long =
     subst IsTooLong (sym c.makes) (digits_stay_long n c.digits c.are_digits long)
@@ -70,10 +71,10 @@ stays_long n total bytes rest c long =
 pub no_more : (first : ℕ) (more bytes : List ℕ) → bytes ≡ first ∷ more → (IsDigit first → ⊥)
     → (b : ℕ) (others : List ℕ) → bytes ≡ b ∷ others → IsDigit b → ⊥
 no_more first more bytes begins not b others e is =
-    not (subst IsDigit (same_first (sym e ∙ begins)) is)
+    not (subst IsDigit (heads_equal (sym e ∙ begins)) is)
 
 pub stops_reduced : (n total digits zeros : ℕ) (bytes rest : List ℕ) → IsReduced n digits zeros
-    → Continues n bytes total rest
+    → ContinuesDigits n bytes total rest
     → ((b : ℕ) (more : List ℕ) → bytes ≡ b ∷ more → IsDigit b → ⊥)
     → (bytes ≡ rest) × IsReduced total digits zeros
 stops_reduced n total digits zeros bytes rest is goes none =

@@ -4,7 +4,7 @@ use Rattle.std.specs.Prelude.{◌≤◌, get_or, length}
 use Rattle.std.specs.List.{All}
 use Rattle.std.proofs.Common.{ap, append_assoc, refl, subst, sym, ◌∙◌}
 use Rattle.std.proofs.lemmas.List.{drop_all, drop_more, nil_from_length}
-use Rattle.format_json_texts.specs.Kinds.{IsAlong, IsStep}
+use Rattle.format_json_texts.specs.Kinds.{IsFoundAlong, IsStep}
 use Rattle.format_json_texts.specs.declared.path.Step.{Step}
 use Rattle.format_json_texts.specs.declared.value.Value.{Value}
 
@@ -22,20 +22,20 @@ none_left P all left behind e none all_behind =
 -- a step along a path
 pub stepped : {A : Type 0} (path : List Step) (i : ℕ) (d : Step) (v w : Value A)
     (found : Option (Value A)) → i < length path → IsStep (get_or path i d) v (Some w)
-    → IsAlong (drop (i + 1) path) w found → IsAlong (drop i path) v found
+    → IsFoundAlong (drop (i + 1) path) w found → IsFoundAlong (drop i path) v found
 stepped path i d v w found within leads x =
-    let P : List Step → Type 0 = λ l. IsAlong l v found in
+    let P : List Step → Type 0 = λ l. IsFoundAlong l v found in
     subst P (sym (drop_more path i d within)) (Some w, leads, x)
 
 pub stepped_none : {A : Type 0} (path : List Step) (i : ℕ) (d : Step) (v : Value A)
-    → i < length path → IsStep (get_or path i d) v None → IsAlong (drop i path) v None
+    → i < length path → IsStep (get_or path i d) v None → IsFoundAlong (drop i path) v None
 stepped_none path i d v within leads =
-    let P : List Step → Type 0 = λ l. IsAlong l v None in
+    let P : List Step → Type 0 = λ l. IsFoundAlong l v None in
     subst P (sym (drop_more path i d within)) (None, leads, refl)
 
 -- at the end of it
 pub stepped_all : {A : Type 0} (path : List Step) (i : ℕ) (v : Value A) → length path ≤ i
-    → IsAlong (drop i path) v (Some v)
+    → IsFoundAlong (drop i path) v (Some v)
 stepped_all path i v past =
-    let P : List Step → Type 0 = λ l. IsAlong l v (Some v) in
+    let P : List Step → Type 0 = λ l. IsFoundAlong l v (Some v) in
     subst P (sym (drop_all i path past)) refl

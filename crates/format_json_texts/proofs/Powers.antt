@@ -13,7 +13,7 @@ use Rattle.std.specs.Option.{SomeIff}
 use Rattle.std.specs.Result.{result_ok}
 use Rattle.std.specs.Prelude.{Err, FitsSigned, Ok, Option}
 use Rattle.std.specs.declared.result.Result.{Result}
-use Rattle.format_json_texts.proofs.Going.{same_others}
+use Rattle.format_json_texts.proofs.Going.{tails_equal}
 use Rattle.format_json_texts.specs.NumberParts.{AreDigits, IsDigit, IsExponent}
 
 all_digits : (text : List ℕ) → AllByRecursion IsDigit text → AllDigits 10 text
@@ -48,7 +48,7 @@ pub behind_letter : (exponent text : List ℕ) (power : ℤ) (first : ℕ) → I
 behind_letter exponent text power first (inl none) e =
     absurd (omega (arith, ap (λ (l : List ℕ). length l) (sym none.0 ∙ e)))
 behind_letter exponent text power first (inr p) e =
-    let same : p.sign ++ p.digits ≡ text = same_others (sym p.joins ∙ e) in (
+    let same : p.sign ++ p.digits ≡ text = tails_equal (sym p.joins ∙ e) in (
       subst (λ t. IsNumeral 10 (without_leading_sign t)) same
           (numeral p.sign p.digits p.is_sign p.are_digits),
       p.says ∙ ap (signed_digits_value 10) same,
@@ -79,7 +79,7 @@ pub behind_letter_utf8 : (exponent text : List ℕ) (power : ℤ) (first : ℕ)
 behind_letter_utf8 exponent text power first (inl none) e =
     absurd (omega (arith, ap (λ (l : List ℕ). length l) (sym none.0 ∙ e)))
 behind_letter_utf8 exponent text power first (inr p) e =
-    subst IsUtf8 (same_others (sym p.joins ∙ e))
+    subst IsUtf8 (tails_equal (sym p.joins ∙ e))
     (IsUtf8-from_ascii (p.sign ++ p.digits) (signed_ascii p.sign p.digits p.is_sign p.are_digits.1))
 
 -- what is parsed

@@ -16,7 +16,7 @@ abbrev pub IsTooLong : ℕ → Type 0
 IsTooLong n = (digits : ℕ) × (zeros : ℕ) × IsReduced n digits zeros × (2 ^ 64 ≤ digits)
 
 -- The bytes are digits, which make n to total, and then the rest, which begins with none.
-pub record Continues (n : ℕ) (bytes : List ℕ) (total : ℕ) (rest : List ℕ) : Type 0 where
+pub record ContinuesDigits (n : ℕ) (bytes : List ℕ) (total : ℕ) (rest : List ℕ) : Type 0 where
   pub digits : List ℕ
   pub are_digits : AllByRecursion IsDigit digits
   pub joins : bytes ≡ digits ++ rest

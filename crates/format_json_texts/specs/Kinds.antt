@@ -76,8 +76,8 @@ module _ {A : Type 0} where
   IsStep (steps.Place index) v found = IsAt v index found
 
   -- what is found along a path: nothing where one of its steps finds nothing
-  abbrev pub IsAlong : List Step → Value A → Option (Value A) → Type 0
-  IsAlong [] v found = found ≡ Some v
-  IsAlong (step ∷ path) v found =
+  abbrev pub IsFoundAlong : List Step → Value A → Option (Value A) → Type 0
+  IsFoundAlong [] v found = found ≡ Some v
+  IsFoundAlong (step ∷ path) v found =
       (next : Option (Value A)) × IsStep step v next
-      × MatchOption next (found ≡ None) (λ w. IsAlong path w found)
+      × MatchOption next (found ≡ None) (λ w. IsFoundAlong path w found)

@@ -20,12 +20,12 @@ use Rattle.format_parts.specs.Words.{to_four}
 use Rattle.format_parts.specs.Words.{Slice}
 
 -- a digit from 1 to 9
-abbrev pub IsLeading : ℕ → Type 0
-IsLeading c = (49 ≤ c) × (c ≤ 57)
+abbrev pub IsNonzeroDigit : ℕ → Type 0
+IsNonzeroDigit c = (49 ≤ c) × (c ≤ 57)
 
 -- the letter E or e
-abbrev pub IsE : ℕ → Type 0
-IsE c = (c ≡ 101) ⊎ (c ≡ 69)
+abbrev pub IsExponentLetter : ℕ → Type 0
+IsExponentLetter c = (c ≡ 101) ⊎ (c ≡ 69)
 
 -- ---- what is written
 
@@ -33,7 +33,7 @@ IsE c = (c ≡ 101) ⊎ (c ≡ 69)
 abbrev pub IntegerText : Text ℕ Slice
 IntegerText =
     EitherText (TakenText text_reading (One 48))
-    (TakenText text_reading (BothText pair (In IsLeading) (Run IsDecDigit 0)))
+    (TakenText text_reading (BothText pair (In IsNonzeroDigit) (Run IsDecDigit 0)))
 
 -- frac = decimal-point 1*DIGIT
 abbrev pub FractionText : Text ℕ Slice
@@ -59,7 +59,7 @@ NumberText =
 abbrev pub Integer : Grammar ℕ Slice
 Integer =
     Either (Taken text_reading (Char 48))
-    (Taken text_reading (Both pair (OneIn IsLeading) (RunOf IsDecDigit 0)))
+    (Taken text_reading (Both pair (OneIn IsNonzeroDigit) (RunOf IsDecDigit 0)))
 
 -- a point, and all digits after it, at least one
 abbrev pub Fraction : Grammar ℕ Slice
@@ -80,15 +80,16 @@ Number =
 
 -- a character that can continue a number: a digit, a point or an E
 abbrev pub ContinuesNumber : ℕ → Type 0
-ContinuesNumber c = IsDecDigit c ⊎ ((c ≡ 46) ⊎ IsE c)
+ContinuesNumber c = IsDecDigit c ⊎ ((c ≡ 46) ⊎ IsExponentLetter c)
 
 integer_of : IsGrammarOf Integer IntegerText (NotFirst IsDecDigit)
 integer_of =
     either_apart (taken_of text_reading (behind_less (λ rest b. tt) (char_of 48)))
-    (taken_of text_reading (both_of pair (in_of IsLeading) (run_of IsDecDigit 0)
+    (taken_of text_reading (both_of pair (in_of IsNonzeroDigit) (run_of IsDecDigit 0)
     front_any)) (taken_front text_reading (spelled_begins 48 [] 48))
     (taken_front text_reading (both_front pair
-    (front_begins (λ c is zero. absurd (omega (arith, is, zero))) (in_begins IsLeading)) front_any))
+    (front_begins (λ c is zero. absurd (omega (arith, is, zero))) (in_begins IsNonzeroDigit))
+    front_any))
 
 integer_begins : TextsStartWith IsDecDigit IntegerText
 integer_begins =
@@ -96,7 +97,7 @@ integer_begins =
     (front_whole (begins_more _ _ (λ c is. omega (arith, is)))
     (spelled_begins 48 [] 48)))
     (taken_front text_reading (both_front pair
-    (front_whole (begins_more _ _ (λ c is. omega (arith, is))) (in_begins IsLeading))
+    (front_whole (begins_more _ _ (λ c is. omega (arith, is))) (in_begins IsNonzeroDigit))
     front_any))
 
 fraction_of : IsGrammarOf Fraction FractionText (NotFirst IsDecDigit)
@@ -133,7 +134,7 @@ exponent_of =
     no_sign c is (inl e) = absurd (omega (arith, is, e))
     no_sign c is (inr e) = absurd (omega (arith, is, e))
 
-exponent_begins : TextsStartWith IsE ExponentText
+exponent_begins : TextsStartWith IsExponentLetter ExponentText
 exponent_begins = both_front latter (both_front pair (one_or_other_begins 101 69) front_any)
     front_any
 
@@ -163,7 +164,7 @@ number_of =
         (λ rest not. none_begins exponent_of exponent_begins rest
         (not_first _ _ (λ c is. inr (inr is)) rest not))
 
-    no_point : (c : ℕ) → IsE c → IsPoint c → ⊥
+    no_point : (c : ℕ) → IsExponentLetter c → IsPoint c → ⊥
     no_point c (inl e) (inl d) = absurd (omega (arith, e, d))
     no_point c (inr e) (inl d) = absurd (omega (arith, e, d))
     no_point c (inl e) (inr d) = absurd (omega (arith, e, d))

@@ -17,8 +17,8 @@ abbrev pub sign_text : Bool → List ℕ
 sign_text negative = cond negative (45 ∷ []) []
 
 -- int = zero / ( digit1-9 *DIGIT )
-abbrev pub IsWhole : List ℕ → Type 0
-IsWhole text = AreDigits text × ((more : List ℕ) → text ≡ 48 ∷ more → more ≡ [])
+abbrev pub IsIntegerPart : List ℕ → Type 0
+IsIntegerPart text = AreDigits text × ((more : List ℕ) → text ≡ 48 ∷ more → more ≡ [])
 
 -- [ frac ], of these digits: frac = decimal-point 1*DIGIT
 abbrev pub IsFraction : List ℕ → List ℕ → Type 0
@@ -51,7 +51,7 @@ pub record Number : Type 0 where
 pub record IsWritten (text : List ℕ) (number : Number) : Type 0 where
   pub point : List ℕ
   pub exponent : List ℕ
-  pub is_whole : IsWhole number.whole
+  pub is_whole : IsIntegerPart number.whole
   pub is_fraction : IsFraction point number.fraction
   pub is_exponent : IsExponent exponent number.power
   pub joins : text ≡ sign_text number.negative ++ (number.whole ++ (point ++ exponent))

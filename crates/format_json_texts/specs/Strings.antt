@@ -25,8 +25,8 @@ IsUnescaped c =
     ((32 ≤ c) × (c ≤ 33)) ⊎ (((35 ≤ c) × (c ≤ 91)) ⊎ ((93 ≤ c) × (c ≤ 1114111)))
 
 -- a surrogate and one after it, and the character that they are
-abbrev pub ArePair : ℕ × ℕ → ℕ → Type 0
-ArePair p c =
+abbrev pub AreSurrogatePair : ℕ × ℕ → ℕ → Type 0
+AreSurrogatePair p c =
     (55296 ≤ p.0) × (p.0 < 56320) × (56320 ≤ p.1) × (p.1 < 57344)
     × (c ≡ 65536 + (p.0 - 55296) * 1024 + (p.1 - 56320))
 
@@ -44,7 +44,7 @@ StandsFor c k =
 abbrev pub UnicodeText : Text ℕ ℕ
 UnicodeText =
     EitherText (For IsAlone UnitText)
-    (For ArePair (BothText pair UnitText
+    (For AreSurrogatePair (BothText pair UnitText
     (BothText latter (BothText pair (One 92) (One 117)) UnitText)))
 
 -- escape ( %x22 / %x5C / %x2F / %x62 / %x66 / %x6E / %x72 / %x74 / %x75 4HEXDIG )
@@ -67,7 +67,8 @@ StringText holds = Between (One 34) (GatheredText holds (EachText CharacterText)
 abbrev pub Unicode : Grammar ℕ ℕ
 Unicode =
     Either (Meaning IsAlone CodeUnit)
-    (Meaning ArePair (Both pair CodeUnit (Both latter (Both pair (Char 92) (Char 117)) CodeUnit)))
+    (Meaning AreSurrogatePair
+    (Both pair CodeUnit (Both latter (Both pair (Char 92) (Char 117)) CodeUnit)))
 
 -- a backslash, and the characters that it escapes
 abbrev pub Escape : Grammar ℕ ℕ
@@ -90,19 +91,19 @@ unicode_of : IsGrammarOf Unicode UnicodeText Anything
 unfolding Made MadeText BothText
 unicode_of =
     either_of (for_of IsAlone unit_of)
-    (for_of ArePair
+    (for_of AreSurrogatePair
     (both_of pair unit_of
     (both_of latter (both_of pair (char_of 92) (char_of 117) front_any) unit_of
     front_any) front_any)) (record { makes = alone })
   where
-    apart : (u c d : ℕ) (p : ℕ × ℕ) → IsAlone u c → ArePair p d → u ≡ p.0 → ⊥
+    apart : (u c d : ℕ) (p : ℕ × ℕ) → IsAlone u c → AreSurrogatePair p d → u ≡ p.0 → ⊥
     apart u c d p (e, inl low) (above, below, from, to, f) same =
         absurd (omega (arith, low, above, below, same))
     apart u c d p (e, inr high) (above, below, from, to, f) same =
         absurd (omega (arith, high, above, below, same))
 
     alone : (c : ℕ) (xs rest : List ℕ)
-        → For ArePair
+        → For AreSurrogatePair
         (BothText pair UnitText
         (BothText latter (BothText pair (One 92) (One 117)) UnitText))
         c xs

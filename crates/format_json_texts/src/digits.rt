@@ -1,6 +1,6 @@
 //! Digits, read from the left.
 
-ghost use Rattle.format_json_texts.specs.Digits.{Continues, IsReduced, IsTooLong};
+ghost use Rattle.format_json_texts.specs.Digits.{ContinuesDigits, IsReduced, IsTooLong};
 ghost use Rattle.std.specs.Prelude.{◌≡◌, ◌+◌, ◌*◌, ◌<◌, ◌≤◌, ◌^◌, ℕ, List, IfSome, MatchOption};
 ghost use Rattle.std.specs.Prelude.{length};
 
@@ -46,7 +46,7 @@ fn push(read: Significand, digit: u64) -> Option<Significand>
 pub(crate) fn push_digits<'i>(read: Significand, bytes: &'i [u8]) -> Option<(Significand, &'i [u8])>
     requires { read.zeros + length bytes.now < 2 ^ 64 }
     ensures reduced { (n total : ℕ) (rest : List ℕ) → IsReduced n read.digits read.zeros
-        → Continues n bytes.now total rest
+        → ContinuesDigits n bytes.now total rest
         → MatchOption result (IsTooLong total)
         (λ (after, behind). (behind.now ≡ rest) × IsReduced total after.digits after.zeros) }
     ensures longer { IfSome result (λ (after, behind).

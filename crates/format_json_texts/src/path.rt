@@ -1,5 +1,5 @@
 //! Paths into values: names of members, and places of elements.
-ghost use Rattle.format_json_texts.specs.Kinds.{IsAlong, IsStep};
+ghost use Rattle.format_json_texts.specs.Kinds.{IsFoundAlong, IsStep};
 ghost use Rattle.std.specs.Prelude.{option_map};
 
 use crate::value::Value;
@@ -50,7 +50,7 @@ impl<A: Allocator> Value<A> {
     /// assert!(rt; value.along(&[Step::Name("a"), Step::Name("b")]).is_none());
     /// ```
     pub fn along(&self, path: &[Step<'_>]) -> Option<&Value<A>>
-        ensures { IsAlong path.now self.now (option_map (λ v. v.now) result) }
+        ensures { IsFoundAlong path.now self.now (option_map (λ v. v.now) result) }
     {
         let mut target = self;
         'steps: for step in path {

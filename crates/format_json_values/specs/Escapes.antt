@@ -5,9 +5,8 @@ use Rattle.format_parts.specs.Hexadecimal.{CodeUnit}
 use Rattle.format_parts.specs.Unique.{char_takes, char_unique}
 use Rattle.format_parts.specs.Words.{Char, latter, pair}
 use Rattle.stream_sets.specs.Range.{from_to}
-use Rattle.format_json_texts.specs.Strings.{ArePair, Character, Escape}
-use Rattle.format_json_texts.specs.Strings.{IsUnescaped, Quoted, StandsFor}
-use Rattle.format_json_texts.specs.Strings.{Unicode}
+use Rattle.format_json_texts.specs.Strings.{AreSurrogatePair, Character, Escape, IsUnescaped}
+use Rattle.format_json_texts.specs.Strings.{Quoted, StandsFor, Unicode}
 use Rattle.parser_definitions.specs.Projects.Tokens.{token_takes}
 use Rattle.grammars.specs.Grammar.{Both, Gathered, Grammar, InClass, IsUnique, Many, TakesTokens}
 use Rattle.grammars.specs.Grammar.{Token}
@@ -44,11 +43,11 @@ units_one =
 
 -- ---- escapes
 
-pub pair_unique : IsUnique (Meaning ArePair Units)
-pair_unique = meaning_unique ArePair units_unique
+pub pair_unique : IsUnique (Meaning AreSurrogatePair Units)
+pair_unique = meaning_unique AreSurrogatePair units_unique
 
-pub pair_takes : TakesTokens (Meaning ArePair Units)
-pair_takes = meaning_takes ArePair units_takes
+pub pair_takes : TakesTokens (Meaning AreSurrogatePair Units)
+pair_takes = meaning_takes AreSurrogatePair units_takes
 
 pub unicode_unique : IsUnique Unicode
 unicode_unique = either_unique alone_unique pair_unique

@@ -8,7 +8,7 @@ use Rattle.format_parts.specs.Unique.{char_takes, char_unique, run_unique}
 use Rattle.format_parts.specs.Words.{Char, latter, pair}
 use Rattle.format_json_values.specs.declared.number.LeadingDigits.{LeadingDigits}
 use Rattle.format_json_texts.specs.Number as texts
-use Rattle.format_json_texts.specs.Number.{IsLeading}
+use Rattle.format_json_texts.specs.Number.{IsNonzeroDigit}
 use Rattle.winnow_token.specs.OneOf.Laws.{token_of_takes}
 use Rattle.grammars.specs.Grammar.{Both, Class, Either, Grammar, InClass, IsUnique, Optional, Taken}
 use Rattle.grammars.specs.Grammar.{TakesTokens, TokenOf}
@@ -25,7 +25,7 @@ pub integer_unique : IsUnique texts.Integer
 integer_unique =
     either_unique (taken_unique text_reading (char_unique 48))
     (taken_unique text_reading (both_unique pair
-    (token_of_unique (λ c. c) (InClass IsLeading (λ c. c)) tt) (run_unique IsDecDigit 0)))
+    (token_of_unique (λ c. c) (InClass IsNonzeroDigit (λ c. c)) tt) (run_unique IsDecDigit 0)))
 
 pub fraction_unique : IsUnique texts.Fraction
 fraction_unique = both_unique latter (char_unique 46) (run_unique IsDecDigit 1)
@@ -45,8 +45,8 @@ pub integer_takes : TakesTokens texts.Integer
 integer_takes =
     either_takes (taken_takes text_reading (char_takes 48))
     (taken_takes text_reading (both_take pair
-    (token_of_unique (λ c. c) (InClass IsLeading (λ c. c)) tt) (run_unique IsDecDigit 0)
-    (inl (token_of_takes (λ c. c) (InClass IsLeading (λ c. c)) tt))))
+    (token_of_unique (λ c. c) (InClass IsNonzeroDigit (λ c. c)) tt) (run_unique IsDecDigit 0)
+    (inl (token_of_takes (λ c. c) (InClass IsNonzeroDigit (λ c. c)) tt))))
 
 pub number_takes : TakesTokens texts.Number
 number_takes =
@@ -62,7 +62,7 @@ module _ {K T L : Type 0} (reading : Reading T L) (seen : K → T) (code : K →
 
   -- a digit from 1 on
   abbrev LeadingOf : Grammar T K
-  LeadingOf = TokenOf seen (λ (set : LeadingDigits). InClass IsLeading code tt) (record {})
+  LeadingOf = TokenOf seen (λ (set : LeadingDigits). InClass IsNonzeroDigit code tt) (record {})
 
   abbrev IntegerOf : Grammar T L
   IntegerOf = Either (Taken reading (literal 48)) (Taken reading (Both pair LeadingOf (DigitsOf 0)))
@@ -83,5 +83,6 @@ module _ {K T L : Type 0} (reading : Reading T L) (seen : K → T) (code : K →
 pub number_same : Same (NumberOf text_reading (λ c. c) (λ c. c) Char) texts.Number
 number_same =
     taken_same (four_second _ _ _ (either_same (same_refl _) (taken_same (both_same pair
-    (class_same (λ (set : LeadingDigits). InClass IsLeading (λ c. c) tt) (record {}) IsLeading
+    (class_same (λ (set : LeadingDigits). InClass IsNonzeroDigit (λ c. c) tt) (record {})
+    IsNonzeroDigit
     (λ c. (λ told. told.0 refl, λ is. (λ t. is, λ x. refl)))) (same_refl _)))))

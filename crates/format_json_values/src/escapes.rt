@@ -4,8 +4,7 @@ ghost use Rattle.format_parts.specs.Hexadecimal.{CodeUnit, IsAlone, alone_takes,
 ghost use Rattle.format_json_values.specs.Escapes.{escape_unique, pair_takes, pair_unique};
 ghost use Rattle.format_json_values.specs.Escapes.{short_takes};
 ghost use Rattle.format_json_values.specs.Escapes.{short_unique, unicode_takes, unicode_unique};
-ghost use Rattle.format_json_texts.specs.Strings.{ArePair, Escape, StandsFor};
-ghost use Rattle.format_json_texts.specs.Strings.{Unicode};
+ghost use Rattle.format_json_texts.specs.Strings.{AreSurrogatePair, Escape, StandsFor, Unicode};
 ghost use Rattle.std.specs.Prelude.{ℕ, ⊤, MatchOption};
 ghost use Rattle.streams.specs.Text.{text_input, text_reading};
 ghost use Rattle.winnow_core.specs.Exact.{IsSpared, Reads};
@@ -58,8 +57,8 @@ fn read_alone<'i>(input: &mut &'i str) -> Result<char, ErrMode<EmptyError>>
 
 /// The character that two units are, where they are surrogates in order.
 fn paired(units: (u32, u32)) -> Option<char>
-    ensures { MatchOption result ((c : ℕ) → ArePair (units.0, units.1) c → ⊥)
-        (λ c. ArePair (units.0, units.1) c) }
+    ensures { MatchOption result ((c : ℕ) → AreSurrogatePair (units.0, units.1) c → ⊥)
+        (λ c. AreSurrogatePair (units.0, units.1) c) }
 {
     let (high, low) = units;
     if 0xD800 <= high && high < 0xDC00 && 0xDC00 <= low && low < 0xE000 {
@@ -74,7 +73,7 @@ fn paired(units: (u32, u32)) -> Option<char>
 struct UnitPair;
 
 impl<'i> Rule<&'i str, char> for UnitPair {
-    ghost grammar = { λ _. Meaning ArePair Units };
+    ghost grammar = { λ _. Meaning AreSurrogatePair Units };
 
     ghost consumes = { λ _. ⊤ };
 
@@ -88,7 +87,7 @@ impl<'i> Rule<&'i str, char> for UnitPair {
 /// Two units that are a character.
 fn read_pair<'i>(input: &mut &'i str) -> Result<char, ErrMode<EmptyError>>
     ensures reads { Reads text_reading ⟦<ErrMode<EmptyError> as HasKind>⟧.kind
-        (Meaning ArePair Units)
+        (Meaning AreSurrogatePair Units)
         (text_input input.old.now) result (text_input input.new.now) }
     ensures spared { IsSpared ⟦<ErrMode<EmptyError> as HasKind>⟧.kind (text_input input.old.now)
         result }

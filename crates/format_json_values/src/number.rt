@@ -1,6 +1,7 @@
 //! Numbers of JSON (RFC 8259, section 6).
 ghost use Rattle.format_json_values.specs.Numbers.{NumberOf};
-ghost use Rattle.format_json_texts.specs.Number.{ContinuesNumber, IsLeading, Number, NumberText};
+ghost use Rattle.format_json_texts.specs.Number.{ContinuesNumber, IsNonzeroDigit, Number};
+ghost use Rattle.format_json_texts.specs.Number.{NumberText};
 ghost use Rattle.winnow_ascii.specs.Class.{CharIsFunction};
 ghost use Rattle.winnow_core.specs.Exact.{IsSpared, Reads};
 ghost use Rattle.grammars.specs.Grammar.{InClass, Literally};
@@ -26,7 +27,7 @@ use winnow_token::token::one_of;
 pub struct LeadingDigits;
 
 impl<T: AsChar> ContainsToken<T> for LeadingDigits {
-    ghost tells = { λ s. InClass IsLeading T.code tt };
+    ghost tells = { λ s. InClass IsNonzeroDigit T.code tt };
 
     #[inline(always)]
     fn contains_token(&self, token: T) -> bool {

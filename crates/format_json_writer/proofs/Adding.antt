@@ -3,24 +3,25 @@ use Rattle.std.specs.Prelude.{◌≡◌, ℕ, List, [], ◌∷◌, ◌++◌, enc
 use Rattle.std.proofs.Common.{refl, sym, ap, ◌∙◌, append_assoc}
 use Rattle.std.proofs.lemmas.List.{append-nil}
 use Rattle.std.proofs.lemmas.Str.{encodes-append}
-use Rattle.format_json_writer.specs.Added.{Adds, Keeps}
+use Rattle.format_json_writer.specs.Added.{Appends, IsPrefixOf}
 use Rattle.format_parts.specs.Words.{One}
 use Rattle.grammars.specs.Texts.{BothText, EachText, Spelled, Text}
 
-pub keeps_trans : {before between after : List ℕ} → Keeps before between → Keeps between after
-    → Keeps before after
-keeps_trans {before} first second = record {
+pub prefix_trans : {before between after : List ℕ} → IsPrefixOf before between
+    → IsPrefixOf between after
+    → IsPrefixOf before after
+prefix_trans {before} first second = record {
   more = first.more ++ second.more;
   behind = second.behind ∙ ap (λ l. l ++ second.more) first.behind
       ∙ append_assoc before first.more second.more;
 }
 
-pub keeps_more : {before after : List ℕ} (more : List ℕ) → after ≡ before ++ more
-    → Keeps before after
-keeps_more more e = record { more = more; behind = e }
+pub prefix_of_longer : {before after : List ℕ} (more : List ℕ) → after ≡ before ++ more
+    → IsPrefixOf before after
+prefix_of_longer more e = record { more = more; behind = e }
 
-pub keeps_same : {before after : List ℕ} → after ≡ before → Keeps before after
-keeps_same {before} e = record { more = []; behind = e ∙ sym (append-nil before) }
+pub prefix_of_equal : {before after : List ℕ} → after ≡ before → IsPrefixOf before after
+prefix_of_equal {before} e = record { more = []; behind = e ∙ sym (append-nil before) }
 
 -- what is added in two parts
 pub both_behind : (before between after xs ys : List ℕ)
@@ -32,8 +33,9 @@ both_behind before between after xs ys first second =
     ∙ ap (λ l. before ++ l) (sym (encodes-append xs ys))
 
 pub adds_then : {O1 O2 O : Type 0} (output : O1 → O2 → O) {first : Text ℕ O1} {second : Text ℕ O2}
-    {o1 : O1} {o2 : O2} {before between after : List ℕ} → Adds first o1 before between
-    → Adds second o2 between after → Adds (BothText output first second) (output o1 o2) before after
+    {o1 : O1} {o2 : O2} {before between after : List ℕ} → Appends first o1 before between
+    → Appends second o2 between after
+    → Appends (BothText output first second) (output o1 o2) before after
 unfolding BothText
 adds_then output {o1 = o1} {o2} one two = record {
   tokens = one.tokens ++ two.tokens;
@@ -42,8 +44,8 @@ adds_then output {o1 = o1} {o2} one two = record {
 }
 
 pub adds_more : {O : Type 0} {text : Text ℕ O} {o : O} {os : List O}
-    {before between after : List ℕ} → Adds text o before between
-    → Adds (EachText text) os between after → Adds (EachText text) (o ∷ os) before after
+    {before between after : List ℕ} → Appends text o before between
+    → Appends (EachText text) os between after → Appends (EachText text) (o ∷ os) before after
 unfolding EachText
 adds_more one rest = record {
   tokens = one.tokens ++ rest.tokens;
@@ -52,7 +54,7 @@ adds_more one rest = record {
 }
 
 pub adds_none : {O : Type 0} (text : Text ℕ O) (bytes : List ℕ)
-    → Adds (EachText text) [] bytes bytes
+    → Appends (EachText text) [] bytes bytes
 unfolding EachText
 adds_none text bytes = record { tokens = []; is = refl; behind = sym (append-nil bytes) }
 
@@ -61,7 +63,7 @@ pub one_behind : (before : List ℕ) {after : List ℕ} (c : ℕ) → after ≡ 
 one_behind before c e = e ∙ ap (λ l. before ++ l) (sym (append-nil (encode_utf8 c)))
 
 pub one_added : {before after : List ℕ} (c : ℕ) → after ≡ before ++ encode_utf8 c
-    → Adds (One c) c before after
+    → Appends (One c) c before after
 unfolding Spelled
 one_added {before} c e =
     record { tokens = c ∷ []; is = (refl, refl); behind = one_behind before c e }

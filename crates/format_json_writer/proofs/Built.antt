@@ -13,7 +13,7 @@ use Rattle.format_json_texts.specs.Values.{IsArray, IsNumber, IsObject, IsString
 use Rattle.format_json_texts.specs.Values.{WordText}
 use Rattle.format_json_texts.specs.declared.value.Value.{Value}
 use Rattle.format_json_texts.specs.declared.value.Value as values
-use Rattle.format_json_writer.specs.Added.{Adds, PutsNumber}
+use Rattle.format_json_writer.specs.Added.{Appends, PutsNumber}
 use Rattle.format_json_writer.specs.Layout.{CompactScalar, CompactString, LaidItems, LaidList}
 use Rattle.format_json_writer.specs.Layout.{LaidMark, LaidMember, LaidNest, LaidValue, deeper_of}
 use Rattle.format_json_writer.specs.Layout.{line_in, line_of, space_of}
@@ -30,7 +30,7 @@ use Rattle.grammars.specs.Texts.{PartedText, Spelled, TakenText, Text}
 -- ---- what is put is a text of more
 
 pub adds_as : {O : Type 0} {inner outer : Text ℕ O} {o : O} {before after : List ℕ}
-    → IsWithin inner outer → Adds inner o before after → Adds outer o before after
+    → IsWithin inner outer → Appends inner o before after → Appends outer o before after
 adds_as {o = o} within added = record {
   tokens = added.tokens;
   is = within.told o added.tokens added.is;
@@ -38,16 +38,16 @@ adds_as {o = o} within added = record {
 }
 
 adds_first : {O : Type 0} {first : Text ℕ O} (second : Text ℕ O) {o : O} {before after : List ℕ}
-    → Adds first o before after → Adds (EitherText first second) o before after
+    → Appends first o before after → Appends (EitherText first second) o before after
 adds_first second added = adds_as (within_first second within_refl) added
 
 adds_second : {O : Type 0} (first : Text ℕ O) {second : Text ℕ O} {o : O} {before after : List ℕ}
-    → Adds second o before after → Adds (EitherText first second) o before after
+    → Appends second o before after → Appends (EitherText first second) o before after
 adds_second first added = adds_as (within_second first within_refl) added
 
 adds_for : {O U : Type 0} (means : O → U → Type 0) {text : Text ℕ O} {o : O} {u : U}
-    {before after : List ℕ} → means o u → Adds text o before after
-    → Adds (For means text) u before after
+    {before after : List ℕ} → means o u → Appends text o before after
+    → Appends (For means text) u before after
 unfolding MadeText
 adds_for means {o = o} is added = record {
   tokens = added.tokens;
@@ -57,7 +57,7 @@ adds_for means {o = o} is added = record {
 
 adds_spelled : {O : Type 0} (word : List ℕ) {o output : O} {before after : List ℕ}
     → encode_utf8_all word ≡ word → o ≡ output → after ≡ before ++ word
-    → Adds (Spelled word output) o before after
+    → Appends (Spelled word output) o before after
 unfolding Spelled
 adds_spelled word {before = before} ascii is e = record {
   tokens = word;
@@ -68,7 +68,7 @@ adds_spelled word {before = before} ascii is e = record {
 -- a mark, and whitespace after it
 mark_put : (c : ℕ) {gap before between after : List ℕ} → encode_utf8_all gap ≡ gap
     → between ≡ before ++ encode_utf8 c → after ≡ between ++ gap
-    → Adds (LaidMark c gap) c before after
+    → Appends (LaidMark c gap) c before after
 unfolding Spelled
 mark_put c {gap} {between = between} ascii mark space = record {
   tokens = c ∷ gap;
@@ -80,7 +80,7 @@ mark_put c {gap} {between = between} ascii mark space = record {
 -- whitespace, and a mark after it
 mark_closed : (c : ℕ) {gap before between after : List ℕ} → encode_utf8_all gap ≡ gap
     → between ≡ before ++ gap → after ≡ between ++ encode_utf8 c
-    → Adds (Spelled (gap ++ c ∷ []) c) c before after
+    → Appends (Spelled (gap ++ c ∷ []) c) c before after
 unfolding Spelled
 mark_closed c {gap} {before} ascii space mark = record {
   tokens = gap ++ c ∷ [];
@@ -93,18 +93,18 @@ mark_closed c {gap} {before} ascii space mark = record {
 
 module _ {before after : List ℕ} {word : Option Bool} where
   pub null_word : word ≡ None → after ≡ before ++ 110 ∷ 117 ∷ 108 ∷ 108 ∷ []
-      → Adds WordText word before after
+      → Appends WordText word before after
   unfolding encode_utf8
   null_word is e = adds_first _ (adds_spelled (110 ∷ 117 ∷ 108 ∷ 108 ∷ []) refl is e)
 
   pub true_word : word ≡ Some true → after ≡ before ++ 116 ∷ 114 ∷ 117 ∷ 101 ∷ []
-      → Adds WordText word before after
+      → Appends WordText word before after
   unfolding encode_utf8
   true_word is e =
       adds_second _ (adds_first _ (adds_spelled (116 ∷ 114 ∷ 117 ∷ 101 ∷ []) refl is e))
 
   pub false_word : word ≡ Some false → after ≡ before ++ 102 ∷ 97 ∷ 108 ∷ 115 ∷ 101 ∷ []
-      → Adds WordText word before after
+      → Appends WordText word before after
   unfolding encode_utf8
   false_word is e =
       adds_second _ (adds_second _
@@ -112,8 +112,8 @@ module _ {before after : List ℕ} {word : Option Bool} where
 
 -- a string
 string_put : {A : Type 0} {before after bytes : List ℕ} (text : String A)
-    → bytes ≡ string_bytes text → IsUtf8 bytes → Adds CanonicalString (chars bytes) before after
-    → Adds CompactString text before after
+    → bytes ≡ string_bytes text → IsUtf8 bytes → Appends CanonicalString (chars bytes) before after
+    → Appends CompactString text before after
 unfolding GatheredText
 string_put {bytes = bytes} text same utf8 added = record {
   tokens = added.tokens;
@@ -124,19 +124,19 @@ string_put {bytes = bytes} text same utf8 added = record {
 -- ---- values that have no others in them
 
 module _ {A : Type 0} (layout : Layout) (level : ℕ) {before after : List ℕ} where
-  scalar_put : {v : Value A} → Adds CompactScalar v before after
-      → Adds (LaidValue layout level) v before after
+  scalar_put : {v : Value A} → Appends CompactScalar v before after
+      → Appends (LaidValue layout level) v before after
   scalar_put added = adds_as (scalar_is_value layout level) added
 
   -- a word
   pub word_put : (word : Option Bool) {v : Value A} → IsWord word v
-      → Adds WordText word before after → Adds (LaidValue layout level) v before after
+      → Appends WordText word before after → Appends (LaidValue layout level) v before after
   word_put word is added = scalar_put (adds_first _ (adds_for IsWord is added))
 
   -- a number
   pub number_put : {v : Value A} {bytes : List ℕ} (text : String A) → v ≡ values.Number text
       → bytes ≡ string_bytes text → IsUtf8 bytes → PutsNumber bytes before after
-      → Adds (LaidValue layout level) v before after
+      → Appends (LaidValue layout level) v before after
   unfolding MadeText TakenText
   number_put {bytes = bytes} text is same utf8 ((slice, (o, a, shows)), e) =
       let spelled = encodes-chars bytes utf8 in
@@ -149,8 +149,8 @@ module _ {A : Type 0} (layout : Layout) (level : ℕ) {before after : List ℕ} 
   -- a string
   pub text_put : {v : Value A} {bytes : List ℕ} (text : String A) → v ≡ values.Text text
       → bytes ≡ string_bytes text → IsUtf8 bytes
-      → Adds CanonicalString (chars bytes) before after
-      → Adds (LaidValue layout level) v before after
+      → Appends CanonicalString (chars bytes) before after
+      → Appends (LaidValue layout level) v before after
   text_put text is same utf8 added =
       scalar_put (adds_second _ (adds_second _ (adds_for IsString is
       (string_put text same utf8 added))))
@@ -158,16 +158,16 @@ module _ {A : Type 0} (layout : Layout) (level : ℕ) {before after : List ℕ} 
 -- ---- lists
 
 adds_list : {O A : Type 0} {text : Text ℕ (List O)} (list : Vec O A) {before after : List ℕ}
-    → Adds text list.items before after → Adds (InList text) list before after
+    → Appends text list.items before after → Appends (InList text) list before after
 unfolding InList
 adds_list list added = record { tokens = added.tokens; is = added.is; behind = added.behind }
 
 -- none
 pub joined_none : {O D : Type 0} (comma : Text ℕ D) (text : Text ℕ O) (os : List O)
-    (bytes : List ℕ) → length os ≡ 0 → Adds (PartedText comma text) os bytes bytes
+    (bytes : List ℕ) → length os ≡ 0 → Appends (PartedText comma text) os bytes bytes
 unfolding PartedText
 joined_none {O} comma text os bytes none =
-    let P : List O → Type 0 = λ l. Adds (PartedText comma text) l bytes bytes in
+    let P : List O → Type 0 = λ l. Appends (PartedText comma text) l bytes bytes in
     subst P (sym (nil_from_length os none))
     (record { tokens = []; is = refl; behind = sym (append-nil bytes) })
 
@@ -179,11 +179,11 @@ CommaPrefixed layout text =
 module _ {O : Type 0} {text : Text ℕ O} (layout : Layout) where
   -- the first, and the others
   pub joined_first : {o : O} {all os : List O} {before between after : List ℕ} → all ≡ o ∷ os
-      → Adds text o before between → Adds (CommaPrefixed layout text) os between after
-      → Adds (LaidItems layout text) all before after
+      → Appends text o before between → Appends (CommaPrefixed layout text) os between after
+      → Appends (LaidItems layout text) all before after
   unfolding PartedText
   joined_first {before = before} {after = after} is one rest =
-      let P : List O → Type 0 = λ l. Adds (LaidItems layout text) l before after in
+      let P : List O → Type 0 = λ l. Appends (LaidItems layout text) l before after in
       subst P (sym is) (record {
         tokens = one.tokens ++ rest.tokens;
         is = (one.tokens, rest.tokens, one.is, rest.is, refl);
@@ -193,11 +193,11 @@ module _ {O : Type 0} {text : Text ℕ O} (layout : Layout) where
   -- one more
   pub behind_more : (os : List O) (k : ℕ) (o : O) {before first second third after : List ℕ}
       → k < length os → o ≡ slice_index_or os k o → first ≡ before ++ encode_utf8 44
-      → second ≡ first ++ line_of layout → Adds text o second third
-      → Adds (CommaPrefixed layout text) (drop (k + 1) os) third after
-      → Adds (CommaPrefixed layout text) (drop k os) before after
+      → second ≡ first ++ line_of layout → Appends text o second third
+      → Appends (CommaPrefixed layout text) (drop (k + 1) os) third after
+      → Appends (CommaPrefixed layout text) (drop k os) before after
   behind_more os k o {before} {after = after} below is comma line one more =
-      let P : List O → Type 0 = λ l. Adds (CommaPrefixed layout text) l before after in
+      let P : List O → Type 0 = λ l. Appends (CommaPrefixed layout text) l before after in
       let here : drop k os ≡ o ∷ drop (k + 1) os =
       drop_more os k o below ∙ ap (λ y. y ∷ drop (k + 1) os) (sym is) in
       subst P (sym here)
@@ -205,9 +205,9 @@ module _ {O : Type 0} {text : Text ℕ O} (layout : Layout) where
 
 -- no more
 pub behind_end : {O : Type 0} (text : Text ℕ O) (layout : Layout) (os : List O) (k : ℕ)
-    (bytes : List ℕ) → length os ≤ k → Adds (CommaPrefixed layout text) (drop k os) bytes bytes
+    (bytes : List ℕ) → length os ≤ k → Appends (CommaPrefixed layout text) (drop k os) bytes bytes
 behind_end {O} text layout os k bytes most =
-    let P : List O → Type 0 = λ l. Adds (CommaPrefixed layout text) l bytes bytes in
+    let P : List O → Type 0 = λ l. Appends (CommaPrefixed layout text) l bytes bytes in
     subst P (sym (drop_all k os most))
     (adds_none (BothText latter (LaidMark 44 (line_of layout)) text) bytes)
 
@@ -215,13 +215,13 @@ behind_end {O} text layout os k bytes most =
 pub list_put : {O A : Type 0} (item : Text ℕ O) (far near : Layout) (opening closing : ℕ)
     (list : Vec O A) {os : List O} {before first second third fourth after : List ℕ}
     → os ≡ list.items → first ≡ before ++ encode_utf8 opening → second ≡ first ++ line_in os near
-    → Adds (LaidItems near item) os second third → fourth ≡ third ++ line_in os far
+    → Appends (LaidItems near item) os second third → fourth ≡ third ++ line_in os far
     → after ≡ fourth ++ encode_utf8 closing
-    → Adds (LaidList opening closing far near item) list before after
+    → Appends (LaidList opening closing far near item) list before after
 list_put {O} item far near opening closing list {first = first} {second} {third} {fourth}
     same opened begun added ended closed =
     let P : List O → Type 0 = λ l. second ≡ first ++ line_in l near in
-    let Q : List O → Type 0 = λ l. Adds (LaidItems near item) l second third in
+    let Q : List O → Type 0 = λ l. Appends (LaidItems near item) l second third in
     let R : List O → Type 0 = λ l. fourth ≡ third ++ line_in l far in
     let all = adds_then latter
     (mark_put opening (line_in_ascii list.items near) opened (subst P same begun))
@@ -233,41 +233,45 @@ list_put {O} item far near opening closing list {first = first} {second} {third}
 
 module _ {A : Type 0} (below : ℕ) (layout : Layout) {near : Layout} {level : ℕ}
     {before after : List ℕ} (is : level ≡ below + 1) (deeper : near ≡ deeper_of layout) where
-  nest_put : {v : Value A} → Adds (LaidNest layout near (LaidValue near below)) v before after
-      → Adds (LaidValue layout level) v before after
+  nest_put : {v : Value A} → Appends (LaidNest layout near (LaidValue near below)) v before after
+      → Appends (LaidValue layout level) v before after
   unfolding LaidValue
   nest_put {v} added =
-      let P : ℕ → Type 0 = λ l. Adds (LaidValue layout l) v before after in
-      let Q : Layout → Type 0 = λ n. Adds (LaidNest layout n (LaidValue n below)) v before after in
+      let P : ℕ → Type 0 = λ l. Appends (LaidValue layout l) v before after in
+      let Q : Layout → Type 0 =
+      λ n. Appends (LaidNest layout n (LaidValue n below)) v before after in
       let e : level ≡ suc below = omega (arith, is) in
       subst P (sym e) (adds_second CompactScalar (subst Q deeper added))
 
   -- brackets round values
   pub array_put : {items : Vec (Value A) A}
-      → Adds (LaidList 91 93 layout near (LaidValue near below)) items before after
-      → Adds (LaidValue layout level) (values.Array items) before after
+      → Appends (LaidList 91 93 layout near (LaidValue near below)) items before after
+      → Appends (LaidValue layout level) (values.Array items) before after
   array_put added = nest_put (adds_first _ (adds_for IsArray refl added))
 
   -- braces round members
   pub object_put : {members : Vec (String A × Value A) A}
-      → Adds (LaidList 123 125 layout near (LaidMember near (LaidValue near below))) members before
+      → Appends (LaidList 123 125 layout near (LaidMember near (LaidValue near below))) members
+      before
       after
-      → Adds (LaidValue layout level) (values.Object members) before after
+      → Appends (LaidValue layout level) (values.Object members) before after
   object_put added = nest_put (adds_second _ (adds_for IsObject refl added))
 
 -- a name, a colon and a value
 pub member_put : {A : Type 0} {text : Text ℕ (Value A)} (layout : Layout)
     {before first second third after bytes : List ℕ} (member : String A × Value A)
-    → bytes ≡ string_bytes member.0 → IsUtf8 bytes → Adds CanonicalString (chars bytes) before first
+    → bytes ≡ string_bytes member.0 → IsUtf8 bytes
+    → Appends CanonicalString (chars bytes) before first
     → second ≡ first ++ encode_utf8 58 → third ≡ second ++ space_of layout
-    → Adds text member.1 third after → Adds (LaidMember layout text) member before after
+    → Appends text member.1 third after → Appends (LaidMember layout text) member before after
 member_put layout member same utf8 name colon space value =
     adds_then pair (string_put member.0 same utf8 name)
     (adds_then latter (mark_put 58 (space_ascii layout) colon space) value)
 
 -- what is put after nothing is all that there is
 pub added_alone : {O : Type 0} {text : Text ℕ O} {o : O} {before after shown : List ℕ}
-    → shown ≡ after → IsUtf8 shown → before ≡ [] → Adds text o before after → text o (chars after)
+    → shown ≡ after → IsUtf8 shown → before ≡ [] → Appends text o before after
+    → text o (chars after)
 added_alone {text = text} {o} {after = after} same utf8 nothing added =
     let P : List ℕ → Type 0 = λ l. text o l in
     let Q : List ℕ → Type 0 = λ l. IsUtf8 l in

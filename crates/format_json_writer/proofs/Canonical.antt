@@ -4,7 +4,7 @@ use Rattle.std.specs.declared.string.String.{String}
 use Rattle.std.proofs.Common.{refl, ap, inl, inr, ◌∙◌, arith}
 use Rattle.format_json_texts.specs.Strings.{CharacterText, EscapeText, StringText}
 use Rattle.format_json_writer.specs.Strings.{CanonicalCharacter, CanonicalEscape, CanonicalString}
-use Rattle.format_json_writer.specs.Strings.{IsSmallHex, SmallUnit}
+use Rattle.format_json_writer.specs.Strings.{IsLowercaseHexDigit, LowercaseUnit}
 use Rattle.format_json_writer.proofs.Within.{IsWithin, within_among, within_first, within_for}
 use Rattle.format_json_writer.proofs.Within.{within_refl, within_row, within_second, within_then}
 use Rattle.format_parts.specs.Hexadecimal.{IsHex, UnitText}
@@ -12,14 +12,14 @@ use Rattle.format_parts.specs.Words.{For, Whichever, latter, pair, to_four}
 use Rattle.grammars.specs.Texts.{BothText, GatheredText}
 use Rattle.stream_sets.specs.Accumulator.Holds.{HasCharacters}
 
-small_is_hex : (c d : ℕ) → IsSmallHex c d → IsHex c d
+small_is_hex : (c d : ℕ) → IsLowercaseHexDigit c d → IsHex c d
 small_is_hex c d (inl x) = inl x
 small_is_hex c d (inr x) = inr (inr x)
 
-digit_within : IsWithin (For IsSmallHex Whichever) (For IsHex Whichever)
+digit_within : IsWithin (For IsLowercaseHexDigit Whichever) (For IsHex Whichever)
 digit_within = within_for small_is_hex within_refl
 
-unit_within : IsWithin SmallUnit UnitText
+unit_within : IsWithin LowercaseUnit UnitText
 unit_within =
     within_for (λ ds u is. is)
     (within_then to_four digit_within

@@ -9,7 +9,7 @@ use Rattle.format_parts.specs.Words.{Slice, Word, former, pair}
 use Rattle.format_json_values.specs.Escapes.{character_unique, quoted_unique, units_one}
 use Rattle.format_json_values.specs.Numbers.{number_unique}
 use Rattle.format_json_texts.specs.Number.{Number}
-use Rattle.format_json_texts.specs.Strings.{ArePair, Character, IsUnescaped, Quoted}
+use Rattle.format_json_texts.specs.Strings.{AreSurrogatePair, Character, IsUnescaped, Quoted}
 use Rattle.format_json_texts.specs.Strings.{StandsFor, Unicode}
 use Rattle.format_json_texts.specs.Values.{AnyValue, AnyWord, Array, Gap, HasText, IsArray}
 use Rattle.format_json_texts.specs.Values.{IsNumber, IsObject, IsString, IsWord, JsonText, Member}
@@ -36,7 +36,7 @@ unicode_agrees : Agrees (λ c d. c ≡ d) Unicode
 unicode_agrees =
     either_agrees (means_agree IsAlone (same_agrees unit_one)
     (λ o p u v e x y. x.0 ∙ e ∙ sym y.0))
-    (means_agree ArePair (same_agrees units_one)
+    (means_agree AreSurrogatePair (same_agrees units_one)
     (λ o p u v e x y.
     x.4 ∙ ap (λ (q : ℕ × ℕ). 65536 + (q.0 - 55296) * 1024 + (q.1 - 56320)) e ∙ sym y.4))
 

@@ -11,11 +11,10 @@ use Rattle.std.proofs.lemmas.List.{append-nil, nil_from_length}
 use Rattle.std.proofs.lemmas.Str.{chars-nil, chars_past_char, encodes-chars}
 use Rattle.format_json_texts.specs.Strings.{IsUnescaped, StringText}
 use Rattle.format_parts.specs.Words.{In, Whichever, former, latter}
-use Rattle.format_json_writer.specs.Added.{Adds}
+use Rattle.format_json_writer.specs.Added.{Appends}
 use Rattle.format_json_writer.proofs.Adding.{adds_more, adds_none, adds_then, one_added}
 use Rattle.format_json_writer.specs.Strings.{CanonicalCharacter, CanonicalString, Escapes}
-use Rattle.format_json_writer.specs.Strings.{IsSmallHex}
-use Rattle.format_json_writer.specs.Strings.{SmallUnit}
+use Rattle.format_json_writer.specs.Strings.{IsLowercaseHexDigit, LowercaseUnit}
 use Rattle.format_json_writer.proofs.Canonical.{string_canonical}
 use Rattle.stream_sets.specs.Accumulator.Holds.{HasCharacters}
 use Rattle.grammars.specs.Texts.{BothText, EachText, EitherText, MadeText, Spelled}
@@ -39,8 +38,10 @@ escape_written c k is = inr (
   refl,
 )
 
-digits_written : (u a b c d p q r s : ℕ) → IsSmallHex a p → IsSmallHex b q → IsSmallHex c r
-    → IsSmallHex d s → u ≡ p * 4096 + q * 256 + r * 16 + s → SmallUnit u (a ∷ b ∷ c ∷ d ∷ [])
+digits_written : (u a b c d p q r s : ℕ) → IsLowercaseHexDigit a p → IsLowercaseHexDigit b q
+    → IsLowercaseHexDigit c r
+    → IsLowercaseHexDigit d s → u ≡ p * 4096 + q * 256 + r * 16 + s
+    → LowercaseUnit u (a ∷ b ∷ c ∷ d ∷ [])
 unfolding BothText MadeText Whichever
 digits_written u a b c d p q r s x y z w e = (
   (p, q, r, s),
@@ -66,11 +67,11 @@ digits_written u a b c d p q r s x y z w e = (
   e,
 )
 
-number_written : (c h l : ℕ) → c < 32 → ((k : ℕ) → Escapes k c → ⊥) → IsSmallHex h (c / 16)
-    → IsSmallHex l (c % 16) → CanonicalCharacter c (92 ∷ 117 ∷ 48 ∷ 48 ∷ h ∷ l ∷ [])
+number_written : (c h l : ℕ) → c < 32 → ((k : ℕ) → Escapes k c → ⊥) → IsLowercaseHexDigit h (c / 16)
+    → IsLowercaseHexDigit l (c % 16) → CanonicalCharacter c (92 ∷ 117 ∷ 48 ∷ 48 ∷ h ∷ l ∷ [])
 unfolding EitherText BothText Spelled MadeText
 number_written c h l low none high least =
-    let zero_digit : IsSmallHex 48 0 = inl (omega arith) in
+    let zero_digit : IsLowercaseHexDigit 48 0 = inl (omega arith) in
     let unit = digits_written c 48 48 h l 0 0 (c / 16) (c % 16) zero_digit zero_digit high least
     (omega arith) in
     inr (
@@ -102,7 +103,7 @@ where_ok xs ys zs (Err x) e = tt
 
 pub plain_pushed : {before after : List ℕ} (c : ℕ) → 32 ≤ c → c ≤ 1114111
     → ((k : ℕ) → Escapes k c → ⊥) → after ≡ before ++ encode_utf8 c
-    → Adds CanonicalCharacter c before after
+    → Appends CanonicalCharacter c before after
 plain_pushed {before} c low high none e = record {
   tokens = c ∷ [];
   is = plain_written c (unescaped c low high none);
@@ -124,7 +125,7 @@ plain_pushed {before} c low high none e = record {
 
 pub escape_pushed : {before between after : List ℕ} (c k : ℕ) → Escapes k c
     → between ≡ before ++ encode_utf8 92 → after ≡ between ++ encode_utf8 k
-    → Adds CanonicalCharacter c before after
+    → Appends CanonicalCharacter c before after
 escape_pushed {before} c k is e f = record {
   tokens = 92 ∷ k ∷ [];
   is = escape_written c k is;
@@ -133,9 +134,9 @@ escape_pushed {before} c k is e f = record {
 }
 
 pub number_pushed : {before first second after : List ℕ} (c h l : ℕ) → c < 32
-    → ((k : ℕ) → Escapes k c → ⊥) → IsSmallHex h (c / 16) → IsSmallHex l (c % 16)
+    → ((k : ℕ) → Escapes k c → ⊥) → IsLowercaseHexDigit h (c / 16) → IsLowercaseHexDigit l (c % 16)
     → first ≡ before ++ (92 ∷ 117 ∷ 48 ∷ 48 ∷ []) → second ≡ first ++ encode_utf8 h
-    → after ≡ second ++ encode_utf8 l → Adds CanonicalCharacter c before after
+    → after ≡ second ++ encode_utf8 l → Appends CanonicalCharacter c before after
 unfolding encode_utf8
 number_pushed {before} {first} {second} c h l low none high least d e f = record {
   tokens = 92 ∷ 117 ∷ 48 ∷ 48 ∷ h ∷ l ∷ [];
@@ -149,14 +150,14 @@ number_pushed {before} {first} {second} c h l low none high least d e f = record
 
 -- quotes round characters
 pub string_pushed : {cs before first second after : List ℕ} → first ≡ before ++ encode_utf8 34
-    → Adds (EachText CanonicalCharacter) cs first second → after ≡ second ++ encode_utf8 34
-    → Adds CanonicalString cs before after
+    → Appends (EachText CanonicalCharacter) cs first second → after ≡ second ++ encode_utf8 34
+    → Appends CanonicalString cs before after
 string_pushed opening added closing =
     adds_then latter (one_added 34 opening) (adds_then former added (one_added 34 closing))
 
 pub string_added : {A : Type 0} {text before after : List ℕ} → IsUtf8 text
-    → Adds CanonicalString (chars text) before after → (string : String A)
-    → string_bytes string ≡ text → Adds (StringText HasCharacters) string before after
+    → Appends CanonicalString (chars text) before after → (string : String A)
+    → string_bytes string ≡ text → Appends (StringText HasCharacters) string before after
 string_added {text = text} utf8 added string same = record {
   tokens = added.tokens;
   is = string_canonical string (chars text) added.tokens (same ∙ sym (encodes-chars text utf8))
@@ -165,17 +166,17 @@ string_added {text = text} utf8 added string same = record {
 }
 
 pub none_left : (text bytes : List ℕ) → length text ≡ 0
-    → Adds (EachText CanonicalCharacter) (chars text) bytes bytes
+    → Appends (EachText CanonicalCharacter) (chars text) bytes bytes
 none_left text bytes none =
-    let P : List ℕ → Type 0 = λ cs. Adds (EachText CanonicalCharacter) cs bytes bytes in
+    let P : List ℕ → Type 0 = λ cs. Appends (EachText CanonicalCharacter) cs bytes bytes in
     subst P (sym (ap (λ l. chars l) (nil_from_length text none) ∙ chars-nil))
     (adds_none CanonicalCharacter bytes)
 
 -- one more character is first
 pub one_more : {before between after : List ℕ} (text rest : List ℕ) (c : ℕ) → IsUtf8 text
-    → text ≡ encode_utf8 c ++ rest → Adds CanonicalCharacter c before between
-    → Adds (EachText CanonicalCharacter) (chars rest) between after
-    → Adds (EachText CanonicalCharacter) (chars text) before after
+    → text ≡ encode_utf8 c ++ rest → Appends CanonicalCharacter c before between
+    → Appends (EachText CanonicalCharacter) (chars rest) between after
+    → Appends (EachText CanonicalCharacter) (chars text) before after
 one_more {before} {between} {after} text rest c utf8 parts one more =
-    let P : List ℕ → Type 0 = λ cs. Adds (EachText CanonicalCharacter) cs before after in
+    let P : List ℕ → Type 0 = λ cs. Appends (EachText CanonicalCharacter) cs before after in
     subst P (sym (chars_past_char text rest c utf8 parts)) (adds_more one more)

@@ -20,9 +20,9 @@ use Rattle.format_json_writer.specs.declared.error.WriteError.{WriteError}
 use Rattle.format_json_writer.specs.declared.error.WriteError.TheVariants as errors
 use Rattle.stream_sets.specs.Accumulator.Holds.{HasCharacters}
 
-pub if_error : {T E : Type 0} (P : E → Type 0) (result : Result T E) (e : E)
+pub err_satisfies : {T E : Type 0} (P : E → Type 0) (result : Result T E) (e : E)
     → IsErrAnd result (λ x. x ≡ e) → P e → IfErr result P
-if_error {T} {E} P result e is p =
+err_satisfies {T} {E} P result e is p =
     let (x, same, there) = err_from_is_err_and result is in
     let Q : Result T E → Type 0 = λ r. IfErr r P in
     subst Q (sym same) (subst P (sym there) p)

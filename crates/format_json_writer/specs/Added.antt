@@ -7,13 +7,13 @@ use Rattle.format_json_texts.specs.Number.{NumberText}
 use Rattle.format_parts.specs.Words.{Slice}
 use Rattle.grammars.specs.Texts.{Text}
 
--- `Keeps before after`: `after` is `before`, possibly followed by more.
-pub record Keeps (before after : List ℕ) : Type 0 where
+-- `IsPrefixOf before after`: `after` is `before`, possibly followed by more.
+pub record IsPrefixOf (before after : List ℕ) : Type 0 where
   pub more : List ℕ
   pub behind : after ≡ before ++ more
 
--- `Adds text o before after`: `after` is `before` followed by an encoding of `o`, in UTF-8.
-pub record Adds {O : Type 0} (text : Text ℕ O) (o : O) (before after : List ℕ) : Type 0 where
+-- `Appends text o before after`: `after` is `before` followed by an encoding of `o`, in UTF-8.
+pub record Appends {O : Type 0} (text : Text ℕ O) (o : O) (before after : List ℕ) : Type 0 where
   pub tokens : List ℕ
   pub is : text o tokens
   pub behind : after ≡ before ++ encode_utf8_all tokens

@@ -11,8 +11,8 @@ abbrev pub Escapes : ℕ → ℕ → Type 0
 Escapes k c = StandsFor k c × (k ≡ 47 → ⊥)
 
 -- a hexadecimal digit with a small letter, and its value
-abbrev pub IsSmallHex : ℕ → ℕ → Type 0
-IsSmallHex c d =
+abbrev pub IsLowercaseHexDigit : ℕ → ℕ → Type 0
+IsLowercaseHexDigit c d =
     ((48 ≤ c) × (c ≤ 57) × (c ≡ 48 + d)) ⊎ ((97 ≤ c) × (c ≤ 102) × (c ≡ 87 + d))
 
 -- a control character that no other character escapes
@@ -20,16 +20,17 @@ abbrev pub IsBare : ℕ → ℕ → Type 0
 IsBare u c = (c ≡ u) × (u < 32) × ((k : ℕ) → Escapes k c → ⊥)
 
 -- four hexadecimal digits
-abbrev pub SmallUnit : Text ℕ ℕ
-SmallUnit =
-    For IsNumberOf (FourTexts (For IsSmallHex Whichever) (For IsSmallHex Whichever)
-    (For IsSmallHex Whichever) (For IsSmallHex Whichever))
+abbrev pub LowercaseUnit : Text ℕ ℕ
+LowercaseUnit =
+    For IsNumberOf (FourTexts (For IsLowercaseHexDigit Whichever)
+    (For IsLowercaseHexDigit Whichever)
+    (For IsLowercaseHexDigit Whichever) (For IsLowercaseHexDigit Whichever))
 
 -- a backslash, and what escapes the character
 abbrev pub CanonicalEscape : Text ℕ ℕ
 CanonicalEscape =
     BothText latter (One 92)
-    (EitherText (For Escapes Whichever) (BothText latter (One 117) (For IsBare SmallUnit)))
+    (EitherText (For Escapes Whichever) (BothText latter (One 117) (For IsBare LowercaseUnit)))
 
 -- a character as it is, or escaped where it must be
 abbrev pub CanonicalCharacter : Text ℕ ℕ

@@ -1,5 +1,5 @@
 //! The whitespace between the parts of a text.
-ghost use Rattle.format_json_writer.specs.Added.{Keeps, LacksRoom};
+ghost use Rattle.format_json_writer.specs.Added.{IsPrefixOf, LacksRoom};
 ghost use Rattle.format_json_writer.specs.Layout.{IsTooWide, deeper_of, line_in, line_of, space_of};
 ghost use Rattle.format_json_writer.specs.declared.error.WriteError.TheVariants.{Memory};
 ghost use Rattle.std.specs.Prelude.{◌≡◌, ◌≤◌, ◌++◌, IfErr, IfOk, OnErr, OnOk, string_bytes};
@@ -56,7 +56,7 @@ pub fn deeper(layout: Layout) -> Result<Layout, WriteError>
 pub fn put_line<B: Allocator>(layout: Layout, into: &mut String<B>) -> Result<(), AllocError>
     ensures written { OnOk result
         (string_bytes into.new ≡ string_bytes into.old ++ line_of layout) }
-    ensures kept { Keeps (string_bytes into.old) (string_bytes into.new) }
+    ensures kept { IsPrefixOf (string_bytes into.old) (string_bytes into.new) }
     ensures capacity { string_capacity into.old ≤ string_capacity into.new }
     ensures full { OnErr result (LacksRoom into.old (line_of layout)) }
 {
@@ -80,7 +80,7 @@ pub fn put_line_in<T, B: Allocator>(
 ) -> Result<(), AllocError>
     ensures written { OnOk result (string_bytes into.new
         ≡ string_bytes into.old ++ line_in items.now layout) }
-    ensures kept { Keeps (string_bytes into.old) (string_bytes into.new) }
+    ensures kept { IsPrefixOf (string_bytes into.old) (string_bytes into.new) }
     ensures capacity { string_capacity into.old ≤ string_capacity into.new }
     ensures full { OnErr result (LacksRoom into.old (line_in items.now layout)) }
 {
@@ -94,7 +94,7 @@ pub fn put_line_in<T, B: Allocator>(
 pub fn put_space<B: Allocator>(layout: Layout, into: &mut String<B>) -> Result<(), AllocError>
     ensures written { OnOk result (string_bytes into.new
         ≡ string_bytes into.old ++ space_of layout) }
-    ensures kept { Keeps (string_bytes into.old) (string_bytes into.new) }
+    ensures kept { IsPrefixOf (string_bytes into.old) (string_bytes into.new) }
     ensures capacity { string_capacity into.old ≤ string_capacity into.new }
     ensures full { OnErr result (LacksRoom into.old (space_of layout)) }
 {

@@ -1,7 +1,7 @@
 //! Values of JSON, nested to a level, as text (RFC 8259, sections 2 to 7).
 ghost use Rattle.format_json_texts.specs.Values.{WordText};
 ghost use Rattle.format_json_texts.specs.declared.value.Value as values;
-ghost use Rattle.format_json_writer.specs.Added.{Adds, Keeps};
+ghost use Rattle.format_json_writer.specs.Added.{Appends, IsPrefixOf};
 ghost use Rattle.format_json_writer.specs.Layout.{LaidItems, LaidMember, LaidValue};
 ghost use Rattle.format_json_writer.specs.Refused.{IsRefused, IsRefusedAmong};
 ghost use Rattle.format_json_writer.specs.declared.error.WriteError.TheVariants.{Memory};
@@ -18,7 +18,7 @@ use std::alloc::Allocator;
 fn put<B: Allocator>(text: &str, into: &mut String<B>) -> Result<(), WriteError>
     ensures written { OnOk result (string_bytes into.new ≡ string_bytes into.old ++ text.now) }
     ensures memory { IfErr result (λ e. e ≡ Memory) }
-    ensures kept { Keeps (string_bytes into.old) (string_bytes into.new) }
+    ensures kept { IsPrefixOf (string_bytes into.old) (string_bytes into.new) }
 {
     into.push_str(text)?;
     Ok(())
@@ -26,10 +26,10 @@ fn put<B: Allocator>(text: &str, into: &mut String<B>) -> Result<(), WriteError>
 
 /// Appends a word: `null`, `true` or `false`.
 fn write_word<B: Allocator>(word: Option<bool>, into: &mut String<B>) -> Result<(), WriteError>
-    ensures written { OnOk result (Adds WordText word (string_bytes into.old)
+    ensures written { OnOk result (Appends WordText word (string_bytes into.old)
         (string_bytes into.new)) }
     ensures memory { IfErr result (λ e. e ≡ Memory) }
-    ensures kept { Keeps (string_bytes into.old) (string_bytes into.new) }
+    ensures kept { IsPrefixOf (string_bytes into.old) (string_bytes into.new) }
 {
     match word {
         None => put("null", into),
@@ -46,10 +46,10 @@ fn write_items<A: Allocator, B: Allocator>(
     items: &[Value<A>],
     into: &mut String<B>,
 ) -> Result<(), WriteError>
-    ensures written { OnOk result (Adds (LaidItems layout (LaidValue layout level)) items.now
+    ensures written { OnOk result (Appends (LaidItems layout (LaidValue layout level)) items.now
         (string_bytes into.old) (string_bytes into.new)) }
     ensures refused { IfErr result (IsRefusedAmong (λ v. v) level items.now) }
-    ensures kept { Keeps (string_bytes into.old) (string_bytes into.new) }
+    ensures kept { IsPrefixOf (string_bytes into.old) (string_bytes into.new) }
 {
     match items.split_first() {
         None => Ok(()),
@@ -73,10 +73,10 @@ fn write_array<A: Allocator, B: Allocator>(
     items: &Vec<Value<A>, A>,
     into: &mut String<B>,
 ) -> Result<(), WriteError>
-    ensures written { OnOk result (Adds (LaidValue layout level) (values.Array items.now)
+    ensures written { OnOk result (Appends (LaidValue layout level) (values.Array items.now)
         (string_bytes into.old) (string_bytes into.new)) }
     ensures refused { IfErr result (IsRefused level (values.Array items.now)) }
-    ensures kept { Keeps (string_bytes into.old) (string_bytes into.new) }
+    ensures kept { IsPrefixOf (string_bytes into.old) (string_bytes into.new) }
 {
     if level == 0 {
         return Err(WriteError::Level);
@@ -99,10 +99,10 @@ fn write_member<A: Allocator, B: Allocator>(
     member: &(String<A>, Value<A>),
     into: &mut String<B>,
 ) -> Result<(), WriteError>
-    ensures written { OnOk result (Adds (LaidMember layout (LaidValue layout level)) member.now
+    ensures written { OnOk result (Appends (LaidMember layout (LaidValue layout level)) member.now
         (string_bytes into.old) (string_bytes into.new)) }
     ensures refused { IfErr result (IsRefused level member.now.1) }
-    ensures kept { Keeps (string_bytes into.old) (string_bytes into.new) }
+    ensures kept { IsPrefixOf (string_bytes into.old) (string_bytes into.new) }
 {
     let (name, value) = member;
     write_string(name.as_str(), into)?;
@@ -119,10 +119,10 @@ fn write_members<A: Allocator, B: Allocator>(
     members: &[(String<A>, Value<A>)],
     into: &mut String<B>,
 ) -> Result<(), WriteError>
-    ensures written { OnOk result (Adds (LaidItems layout (LaidMember layout
+    ensures written { OnOk result (Appends (LaidItems layout (LaidMember layout
         (LaidValue layout level))) members.now (string_bytes into.old) (string_bytes into.new)) }
     ensures refused { IfErr result (IsRefusedAmong (λ m. m.1) level members.now) }
-    ensures kept { Keeps (string_bytes into.old) (string_bytes into.new) }
+    ensures kept { IsPrefixOf (string_bytes into.old) (string_bytes into.new) }
 {
     match members.split_first() {
         None => Ok(()),
@@ -146,10 +146,10 @@ fn write_object<A: Allocator, B: Allocator>(
     members: &Vec<(String<A>, Value<A>), A>,
     into: &mut String<B>,
 ) -> Result<(), WriteError>
-    ensures written { OnOk result (Adds (LaidValue layout level) (values.Object members.now)
+    ensures written { OnOk result (Appends (LaidValue layout level) (values.Object members.now)
         (string_bytes into.old) (string_bytes into.new)) }
     ensures refused { IfErr result (IsRefused level (values.Object members.now)) }
-    ensures kept { Keeps (string_bytes into.old) (string_bytes into.new) }
+    ensures kept { IsPrefixOf (string_bytes into.old) (string_bytes into.new) }
 {
     if level == 0 {
         return Err(WriteError::Level);
@@ -172,10 +172,11 @@ pub fn write_nested<A: Allocator, B: Allocator>(
     value: &Value<A>,
     into: &mut String<B>,
 ) -> Result<(), WriteError>
-    ensures written { OnOk result (Adds (LaidValue layout level) value.now (string_bytes into.old)
+    ensures written { OnOk result
+        (Appends (LaidValue layout level) value.now (string_bytes into.old)
         (string_bytes into.new)) }
     ensures refused { IfErr result (IsRefused level value.now) }
-    ensures kept { Keeps (string_bytes into.old) (string_bytes into.new) }
+    ensures kept { IsPrefixOf (string_bytes into.old) (string_bytes into.new) }
 {
     match value {
         Value::Null => write_word(None, into),

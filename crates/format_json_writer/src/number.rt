@@ -1,7 +1,7 @@
 //! Numbers of JSON as text (RFC 8259, section 6).
 ghost use Rattle.format_json_texts.specs.Number.{NumberText};
 ghost use Rattle.format_parts.specs.Words.{Slice};
-ghost use Rattle.format_json_writer.specs.Added.{Keeps, LacksRoom, PutsNumber};
+ghost use Rattle.format_json_writer.specs.Added.{IsPrefixOf, LacksRoom, PutsNumber};
 ghost use Rattle.format_json_writer.specs.Refused.{IsNoNumber};
 ghost use Rattle.format_json_writer.specs.declared.error.WriteError.TheVariants as errors;
 ghost use Rattle.std.specs.Prelude.{◌≡◌, [], false, IfErr, IsTrue, OnOk, string_bytes};
@@ -42,7 +42,7 @@ pub fn write_number<B: Allocator>(text: &str, into: &mut String<B>) -> Result<()
     ensures written { OnOk result (PutsNumber text.now (string_bytes into.old)
         (string_bytes into.new)) }
     ensures none { IfErr result (IsNoNumber text.now) }
-    ensures kept { Keeps (string_bytes into.old) (string_bytes into.new) }
+    ensures kept { IsPrefixOf (string_bytes into.old) (string_bytes into.new) }
     ensures full { IfErr result (λ e. e ≡ errors.Memory → LacksRoom into.old text.now) }
 {
     check_number(text)?;

@@ -1,9 +1,9 @@
 //! Strings of JSON (RFC 8259, section 7), with the escapes that RFC 8785 (section 3.2.2.2) has for
 //! them.
 ghost use Rattle.format_json_texts.specs.Strings.{StringText};
-ghost use Rattle.format_json_writer.specs.Added.{Adds, Keeps};
+ghost use Rattle.format_json_writer.specs.Added.{Appends, IsPrefixOf};
 ghost use Rattle.format_json_writer.specs.Strings.{CanonicalCharacter, CanonicalString, Escapes};
-ghost use Rattle.format_json_writer.specs.Strings.{IsSmallHex};
+ghost use Rattle.format_json_writer.specs.Strings.{IsLowercaseHexDigit};
 ghost use Rattle.std.specs.Prelude.{◌≡◌, ◌<◌, ℕ, MatchOption, OnOk, string_bytes};
 ghost use Rattle.std.specs.Str.{chars};
 ghost use Rattle.std.specs.declared.string.String.{String};
@@ -29,7 +29,7 @@ fn escape_of(c: char) -> Option<char>
 /// The hexadecimal digit of a value, a small letter from ten on.
 fn hex_digit(value: u32) -> char
     requires { value < 16 }
-    ensures { IsSmallHex result value }
+    ensures { IsLowercaseHexDigit result value }
 {
     match char::from_digit(value, 16) {
         Some(digit) => digit,
@@ -41,9 +41,9 @@ fn hex_digit(value: u32) -> char
 fn write_number<A: Allocator>(c: char, into: &mut String<A>) -> Result<(), AllocError>
     requires control { c < 32 }
     requires bare { (k : ℕ) → Escapes k c → ⊥ }
-    ensures written { OnOk result (Adds CanonicalCharacter c (string_bytes into.old)
+    ensures written { OnOk result (Appends CanonicalCharacter c (string_bytes into.old)
         (string_bytes into.new)) }
-    ensures kept { Keeps (string_bytes into.old) (string_bytes into.new) }
+    ensures kept { IsPrefixOf (string_bytes into.old) (string_bytes into.new) }
 {
     let number = c as u32;
     into.push_str("\\u00")?;
@@ -53,9 +53,9 @@ fn write_number<A: Allocator>(c: char, into: &mut String<A>) -> Result<(), Alloc
 
 /// A character, as it is or escaped.
 fn write_character<A: Allocator>(c: char, into: &mut String<A>) -> Result<(), AllocError>
-    ensures written { OnOk result (Adds CanonicalCharacter c (string_bytes into.old)
+    ensures written { OnOk result (Appends CanonicalCharacter c (string_bytes into.old)
         (string_bytes into.new)) }
-    ensures kept { Keeps (string_bytes into.old) (string_bytes into.new) }
+    ensures kept { IsPrefixOf (string_bytes into.old) (string_bytes into.new) }
 {
     if let Some(escape) = escape_of(c) {
         into.push('\\')?;
@@ -86,12 +86,12 @@ fn write_character<A: Allocator>(c: char, into: &mut String<A>) -> Result<(), Al
 /// assert_eq!(rt; into.as_str(), "\"\\\"a\\\" \\\\ /\\n\\u001b\u{e9}\"");
 /// ```
 pub fn write_string<A: Allocator>(text: &str, into: &mut String<A>) -> Result<(), AllocError>
-    ensures written { OnOk result (Adds CanonicalString (chars text.now) (string_bytes into.old)
+    ensures written { OnOk result (Appends CanonicalString (chars text.now) (string_bytes into.old)
         (string_bytes into.new)) }
     ensures text { OnOk result ((string : String A) → string_bytes string ≡ text.now
-        → Adds (StringText HasCharacters) string (string_bytes into.old)
+        → Appends (StringText HasCharacters) string (string_bytes into.old)
         (string_bytes into.new)) }
-    ensures kept { Keeps (string_bytes into.old) (string_bytes into.new) }
+    ensures kept { IsPrefixOf (string_bytes into.old) (string_bytes into.new) }
 {
     into.push('"')?;
     for c in text.chars() {

@@ -1,6 +1,6 @@
 //! Values of JSON as text (RFC 8259, sections 2 to 7).
 ghost use Rattle.format_json_texts.specs.Values.{ValueText};
-ghost use Rattle.format_json_writer.specs.Added.{Adds, Keeps};
+ghost use Rattle.format_json_writer.specs.Added.{Appends, IsPrefixOf};
 ghost use Rattle.format_json_writer.specs.Alike.{AreAlike};
 ghost use Rattle.format_json_writer.specs.Layout.{CompactValue, LaidValue};
 ghost use Rattle.format_json_writer.specs.Refused.{HasNoText, IsRefused};
@@ -48,13 +48,13 @@ pub fn write_value<A: Allocator, B: Allocator>(
     value: &Value<A>,
     into: &mut String<B>,
 ) -> Result<(), WriteError>
-    ensures written { OnOk result (Adds (CompactValue level) value.now (string_bytes into.old)
+    ensures written { OnOk result (Appends (CompactValue level) value.now (string_bytes into.old)
         (string_bytes into.new)) }
-    ensures text { OnOk result (Adds (ValueText HasCharacters level) value.now
+    ensures text { OnOk result (Appends (ValueText HasCharacters level) value.now
         (string_bytes into.old) (string_bytes into.new)) }
     ensures refused { IfErr result (IsRefused level value.now) }
     ensures none { IfErr result (λ e. (e ≡ Memory) ⊎ HasNoText level value.now) }
-    ensures kept { Keeps (string_bytes into.old) (string_bytes into.new) }
+    ensures kept { IsPrefixOf (string_bytes into.old) (string_bytes into.new) }
 {
     write_value_with(level, Layout::Compact, value, into)
 }
@@ -82,13 +82,14 @@ pub fn write_value_with<A: Allocator, B: Allocator>(
     value: &Value<A>,
     into: &mut String<B>,
 ) -> Result<(), WriteError>
-    ensures written { OnOk result (Adds (LaidValue layout level) value.now (string_bytes into.old)
+    ensures written { OnOk result
+        (Appends (LaidValue layout level) value.now (string_bytes into.old)
         (string_bytes into.new)) }
-    ensures text { OnOk result (Adds (ValueText HasCharacters level) value.now
+    ensures text { OnOk result (Appends (ValueText HasCharacters level) value.now
         (string_bytes into.old) (string_bytes into.new)) }
     ensures refused { IfErr result (IsRefused level value.now) }
     ensures none { IfErr result (λ e. (e ≡ Memory) ⊎ HasNoText level value.now) }
-    ensures kept { Keeps (string_bytes into.old) (string_bytes into.new) }
+    ensures kept { IsPrefixOf (string_bytes into.old) (string_bytes into.new) }
 {
     write_nested(level, layout, value, into)
 }

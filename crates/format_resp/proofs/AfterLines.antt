@@ -6,13 +6,14 @@ use Rattle.std.specs.Borrow.{Bor}
 use Rattle.std.proofs.Common.{refl, sym, ap, subst, ◌∙◌, append_assoc}
 use Rattle.winnow_grammar.specs.InTurn.{First, Led}
 use Rattle.grammars.specs.Texts.{EachText}
-use Rattle.format_resp.proofs.Made.{gathered_is, string_is, shaped, null_is}
-use Rattle.format_resp.proofs.WrittenTexts.{few, list_for}
+use Rattle.format_resp.proofs.Made.{shape_of_gathered, reply_of_string, shape_of_equal}
+use Rattle.format_resp.proofs.Made.{reply_of_null}
+use Rattle.format_resp.proofs.WrittenTexts.{few, list_exists}
 use Rattle.format_resp.specs.Extents.{IsReplyOf, MatchesAtStart, Times}
-use Rattle.format_resp.specs.Heads.{HeadText, IsSmall, Says, IsAfter}
-use Rattle.format_resp.specs.Resp.{Any, Body, Elements, ElementsIn, Ended, LineSays, Replies}
-use Rattle.format_resp.specs.Resp.{ReplyText, SizeText, StringText, formatted, gathered, many}
-use Rattle.format_resp.specs.Resp.{AfterSize}
+use Rattle.format_resp.specs.Heads.{HeadText, IsCountInRange, HeadLineText, IsHeadAfterSize}
+use Rattle.format_resp.specs.Resp.{Any, Body, Elements, ElementsIn, WithLineEnd, LineContents}
+use Rattle.format_resp.specs.Resp.{Replies, ReplyText, SizeText, StringText, has_format, gathered}
+use Rattle.format_resp.specs.Resp.{element_count, AfterSize}
 use Rattle.format_resp.specs.declared.heads.Head.{Head}
 use Rattle.format_resp.specs.declared.heads.Head.TheVariants as heads
 use Rattle.format_resp.specs.declared.marks.LineMark.{LineMark}
@@ -27,15 +28,19 @@ use Rattle.format_resp.specs.declared.reply.Reply.TheViews.{rolls-Double, rolls-
 use Rattle.format_resp.specs.declared.reply.Reply.TheViews.{rolls-Integer, rolls-Null, rolls-Simple}
 
 pub line_any : {A B : Type 0} (mark : LineMark) (reply : Replies A) (line : List ℕ)
-    → LineSays Any mark reply line → (other : Replies B) × LineSays Any mark other line
-line_any Plus reply line (x, is, a) = (made.Simple x, (x, shaped _ refl (rolls-Simple x), a))
-line_any Minus reply line (x, is, a) = (made.Error x, (x, shaped _ refl (rolls-Error x), a))
-line_any Colon reply line (n, is, a) = (made.Integer n, (n, shaped _ refl (rolls-Integer n), a))
-line_any Underscore reply line (is, e) = (made.Null, (shaped _ refl rolls-Null, e))
-line_any Hash reply line (b, is, a) = (made.Boolean b, (b, shaped _ refl (rolls-Boolean b), a))
-line_any Comma reply line (x, is, a) = (made.Double x, (x, shaped _ refl (rolls-Double x), a))
+    → LineContents Any mark reply line → (other : Replies B) × LineContents Any mark other line
+line_any Plus reply line (x, is, a) =
+    (made.Simple x, (x, shape_of_equal _ refl (rolls-Simple x), a))
+line_any Minus reply line (x, is, a) = (made.Error x, (x, shape_of_equal _ refl (rolls-Error x), a))
+line_any Colon reply line (n, is, a) =
+    (made.Integer n, (n, shape_of_equal _ refl (rolls-Integer n), a))
+line_any Underscore reply line (is, e) = (made.Null, (shape_of_equal _ refl rolls-Null, e))
+line_any Hash reply line (b, is, a) =
+    (made.Boolean b, (b, shape_of_equal _ refl (rolls-Boolean b), a))
+line_any Comma reply line (x, is, a) =
+    (made.Double x, (x, shape_of_equal _ refl (rolls-Double x), a))
 line_any Parenthesis reply line (x, is, a) =
-    (made.BigNumber x, (x, shaped _ refl (rolls-BigNumber x), a))
+    (made.BigNumber x, (x, shape_of_equal _ refl (rolls-BigNumber x), a))
 
 -- a relation of what is before a step and what is after it
 abbrev pub Step : Type 1
@@ -123,20 +128,20 @@ module _ {A : Type 0} (protocol : Protocol) (level : ℕ) (rest : List ℕ) wher
 
   follows_there : (mark : Mark) (size : Option ℕ) (reply : Replies A) (xs : List ℕ)
       → AfterSize (Elements protocol level) mark size reply xs
-      → (head : Head) × IsAfter mark size head × IsSmall head
+      → (head : Head) × IsHeadAfterSize mark size head × IsCountInRange head
       × Behind (Inner A protocol level) head (xs ++ rest) rest
   unfolding First
   follows_there mark None reply xs (null, (is, empty)) =
       (heads.Ends, (null, refl), tt, ap (λ l. l ++ rest) empty)
   follows_there (Line mark) (Some n) reply xs never = absurd never
   follows_there (Data mark) (Some n) reply xs (bytes, is, t) = (
-    heads.Data (record { size = n; verbatim = formatted mark }),
+    heads.Data (record { size = n; verbatim = has_format mark }),
     refl,
     tt,
     (bytes, (xs, t, refl)),
   )
   follows_there (Aggregate mark) (Some n) reply xs (list, is, (count, row)) = (
-    heads.Replies (many mark n),
+    heads.Replies (element_count mark n),
     refl,
     subst (λ k. k < 2 ^ 63) count (few list),
     subst (λ k. Inner A protocol level k (xs ++ rest) rest) count
@@ -145,9 +150,10 @@ module _ {A : Type 0} (protocol : Protocol) (level : ℕ) (rest : List ℕ) wher
 
   body_there : (mark : Mark) (reply : Replies A) (xs : List ℕ)
       → Body Any (Elements protocol level) mark reply xs
-      → (head : Head) × (mid : List ℕ) × First (Ended (Says mark)) (xs ++ rest) head mid
+      → (head : Head) × (mid : List ℕ)
+      × First (WithLineEnd (HeadLineText mark)) (xs ++ rest) head mid
       × Behind (Inner A protocol level) head mid rest
-  unfolding First Led Ended SizeText
+  unfolding First Led WithLineEnd SizeText
   body_there (Line mark) reply xs (line, says, e) =
       (heads.Ends, rest, (xs, (line, (refl, line_any mark reply line says), e), refl), refl)
   body_there mark reply xs body =
@@ -180,12 +186,13 @@ module _ {A : Type 0} (protocol : Protocol) (level : ℕ) (rest : List ℕ) wher
 
   module _ (alloc : A) where
     follows_back : (mark : Mark) (size : Option ℕ) (head : Head) (tokens : List ℕ)
-        → IsAfter mark size head → IsSmall head → Behind (Inner A protocol level) head tokens rest
+        → IsHeadAfterSize mark size head → IsCountInRange head
+        → Behind (Inner A protocol level) head tokens rest
         → (reply : Replies A) × (vs : List ℕ)
         × AfterSize (Elements protocol level) mark size reply vs × (tokens ≡ vs ++ rest)
     unfolding First
     follows_back mark None head tokens (null, is) small behind =
-        let (reply, shape_is) = null_is mark null in (
+        let (reply, shape_is) = reply_of_null mark null in (
           reply,
           [],
           (null, (shape_is, refl)),
@@ -194,23 +201,24 @@ module _ {A : Type 0} (protocol : Protocol) (level : ℕ) (rest : List ℕ) wher
     follows_back (Line mark) (Some n) head tokens never small behind = absurd never
     follows_back (Data mark) (Some n) head tokens is small behind =
         let (bytes, (vs, t, e)) = as_head (Inner A protocol level) tokens rest is behind in
-        let (reply, shape_is) = string_is mark bytes in (reply, vs, (bytes, shape_is, t), e)
+        let (reply, shape_is) = reply_of_string mark bytes in (reply, vs, (bytes, shape_is, t), e)
     follows_back (Aggregate mark) (Some n) head tokens is small behind =
         let (os, count, (vs, row, e)) =
-        times_elements protocol level (many mark n) tokens rest
+        times_elements protocol level (element_count mark n) tokens rest
         (as_head (Inner A protocol level) tokens rest is behind) in
-        let less : many mark n < 2 ^ 63 = subst IsSmall (sym is) small in
-        let (list, same) = list_for alloc os (subst (λ k. k < 2 ^ 63) (sym count) less) in
+        let less : element_count mark n < 2 ^ 63 = subst IsCountInRange (sym is) small in
+        let (list, same) = list_exists alloc os (subst (λ k. k < 2 ^ 63) (sym count) less) in
         let Q : List (Replies A) → Type 0 = λ l.
-        (length l ≡ many mark n) × Elements protocol level l vs in
+        (length l ≡ element_count mark n) × Elements protocol level l vs in
         let are = subst Q (sym same) (count, row) in
-        (gathered mark list, vs, (list, gathered_is mark list refl, are), e)
+        (gathered mark list, vs, (list, shape_of_gathered mark list refl, are), e)
 
-    body_back : (mark : Mark) (head : Head) (us mid : List ℕ) → Ended (Says mark) head us
+    body_back : (mark : Mark) (head : Head) (us mid : List ℕ)
+        → WithLineEnd (HeadLineText mark) head us
         → Behind (Inner A protocol level) head mid rest
         → (reply : Replies A) × (vs : List ℕ) × Body Any (Elements protocol level) mark reply vs
         × (us ++ mid ≡ vs ++ rest)
-    unfolding Led Ended SizeText
+    unfolding Led WithLineEnd SizeText
     body_back (Line mark) head us mid (line, (is, (reply, says)), e) behind =
         let (other, also) = line_any mark reply line says in
         let P : Head → Type 0 = λ h. Behind (Inner A protocol level) h mid rest in

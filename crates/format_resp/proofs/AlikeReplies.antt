@@ -12,9 +12,9 @@ use Rattle.format_resp.proofs.Encodings.{nothing_left, rows_determined}
 use Rattle.grammars.specs.Grammar.{IsUnique}
 use Rattle.format_resp.proofs.FirstBytes.{mark_splits}
 use Rattle.format_resp.specs.Alike.{AreAlike, AreAlikeBy, HoldAlike}
-use Rattle.format_resp.specs.Resp.{Any, Body, BooleanText, Content, Elements, ElementsIn, Ended}
-use Rattle.format_resp.specs.Resp.{LineSays, MarkText, Replies, ReplyText, Shown, SizeText}
-use Rattle.format_resp.specs.Resp.{shape_of, AfterSize}
+use Rattle.format_resp.specs.Resp.{Any, Body, BooleanText, Content, Elements, ElementsIn}
+use Rattle.format_resp.specs.Resp.{WithLineEnd, LineContents, MarkText, Replies, ReplyText, Shown}
+use Rattle.format_resp.specs.Resp.{SizeText, shape_of, AfterSize}
 use Rattle.format_resp.specs.declared.marks.LineMark.{LineMark}
 use Rattle.format_resp.specs.declared.marks.LineMark.TheVariants.{Colon, Hash, Underscore}
 use Rattle.format_resp.specs.declared.marks.Mark.{Mark}
@@ -42,8 +42,8 @@ module _ {A : Type 0} (alike : Replies A → Replies A → Type 0) where
       (refl, a)
 
   -- of lines that say the same
-  line_alike : (mark : LineMark) (v w : Replies A) (line : List ℕ) → LineSays Any mark v line
-      → LineSays Any mark w line → AreAlikeBy alike v w
+  line_alike : (mark : LineMark) (v w : Replies A) (line : List ℕ) → LineContents Any mark v line
+      → LineContents Any mark w line → AreAlikeBy alike v w
   unfolding Shown
   line_alike Colon v w line (m, e, a) (n, f, b) = alike_as v w e f (one_number m n line a b)
   line_alike Underscore v w line (e, a) (f, b) = alike_as v w e f tt
@@ -54,13 +54,14 @@ module _ {A : Type 0} (alike : Replies A → Replies A → Type 0) where
 
   -- ---- equivalence, by the kind of reply
 
-  ended_alike : (mark : LineMark) → Determined (AreAlikeBy alike) (Ended (LineSays Any mark))
-  unfolding First Ended
+  ended_alike : (mark : LineMark)
+      → Determined (AreAlikeBy alike) (WithLineEnd (LineContents Any mark))
+  unfolding First WithLineEnd
   ended_alike mark v w tokens rest other (front, (xs, a, e), d) (back, (ys, b, f), h) =
       let plain = line_plain {A = A} mark in
       let (same, left) = one_line tokens front back xs ys rest other (plain.plain v xs a)
       (plain.plain w ys b) e d f h in
-      (line_alike mark v w xs a (subst (LineSays Any mark w) (sym same) b), left)
+      (line_alike mark v w xs a (subst (LineContents Any mark w) (sym same) b), left)
 
 module _ {A : Type 0} (alike : Replies A → Replies A → Type 0)
     (elements : Text ℕ (List (Replies A))) (pairs : Pairs alike elements) where

@@ -12,9 +12,9 @@ use Rattle.streams.specs.Kind.{Kind, backtrack}
 use Rattle.grammars.specs.Texts.{Text}
 use Rattle.format_resp.proofs.Encodings.{data_determined}
 use Rattle.format_resp.proofs.LineTexts.{size_small}
-use Rattle.format_resp.specs.Resp.{Bytes, DataText, Elements, ElementsIn, Fits, Items, Replies}
-use Rattle.format_resp.specs.Resp.{ReplyText, SizeText, formatted, many, shape_of, AfterSize}
-use Rattle.format_resp.specs.Resp.{IsNullable, Nothing}
+use Rattle.format_resp.specs.Resp.{Bytes, DataText, Elements, ElementsIn, FitsFormat, Items}
+use Rattle.format_resp.specs.Resp.{Replies, ReplyText, SizeText, has_format, element_count}
+use Rattle.format_resp.specs.Resp.{shape_of, AfterSize, MayBeNull, Nothing}
 use Rattle.format_resp.specs.declared.marks.AggregateMark.{AggregateMark}
 use Rattle.format_resp.specs.declared.marks.AggregateMark.TheVariants.{Star}
 use Rattle.format_resp.specs.declared.marks.DataMark.{DataMark}
@@ -25,7 +25,7 @@ use Rattle.format_resp.specs.declared.reply.Protocol.{Protocol}
 -- ---- null
 
 pub null_stood : {A : Type 0} {i : Input ℕ} (elements : Text ℕ (List (Replies A))) (mark : Mark)
-    (reply : Replies A) → IsNullable mark → shape_of reply ≡ (mark, Nothing)
+    (reply : Replies A) → MayBeNull mark → shape_of reply ≡ (mark, Nothing)
     → MatchesEachCompletion bytes_reading bytes_follow (First (AfterSize elements mark None)) i
     reply i
 unfolding First
@@ -35,7 +35,7 @@ null_stood {i = i} elements mark reply null is = record {
 }
 
 pub no_null_body : {A : Type 0} {i : Input ℕ} {k : Kind} (elements : Text ℕ (List (Replies A)))
-    (mark : Mark) → (IsNullable mark → ⊥) → k ≡ backtrack
+    (mark : Mark) → (MayBeNull mark → ⊥) → k ≡ backtrack
     → Failed bytes_reading bytes_follow (First (AfterSize elements mark None)) i k i
 unfolding First
 no_null_body elements mark other b =
@@ -51,7 +51,7 @@ StringAfter elements mark n = AfterSize elements (Data mark) (Some n)
 module _ {A : Type 0} {i j : Input ℕ} (elements : Text ℕ (List (Replies A))) (mark : DataMark)
     (n : ℕ) where
   pub data_stood : (bytes : Bor (List ℕ)) (reply : Replies A)
-      → shape_of reply ≡ (Data mark, Bytes bytes) → Fits (formatted mark) bytes.now
+      → shape_of reply ≡ (Data mark, Bytes bytes) → FitsFormat (has_format mark) bytes.now
       → MatchesEachCompletion bytes_reading bytes_follow (First (DataText n)) i bytes j
       → MatchesEachCompletion bytes_reading bytes_follow (First (StringAfter elements mark n)) i
       reply j
@@ -67,7 +67,7 @@ module _ {A : Type 0} {i j : Input ℕ} (elements : Text ℕ (List (Replies A)))
 
   -- bytes that are no such reply
   pub data_failed : {k : Kind} (bytes : Bor (List ℕ)) → k ≡ backtrack
-      → (Fits (formatted mark) bytes.now → ⊥)
+      → (FitsFormat (has_format mark) bytes.now → ⊥)
       → MatchesEachCompletion bytes_reading bytes_follow (First (DataText n)) i bytes j
       → Failed bytes_reading bytes_follow (First (StringAfter elements mark n)) i k j
   unfolding First
@@ -76,7 +76,7 @@ module _ {A : Type 0} {i j : Input ℕ} (elements : Text ℕ (List (Replies A)))
     none = inr (inr (λ more c. (
       b,
       λ reply rest (front, (other, is, (fits, a)), e).
-          never (subst (Fits (formatted mark)) (data_determined n other bytes
+          never (subst (FitsFormat (has_format mark)) (data_determined n other bytes
           (i.left.tokens ++ more) rest (j.left.tokens ++ more) (front, a, e)
           (s.stands more c)).0 fits),
     )));
@@ -86,7 +86,8 @@ module _ {A : Type 0} {i j : Input ℕ} (elements : Text ℕ (List (Replies A)))
 
 module _ {A : Type 0} {i : Input ℕ} (protocol : Protocol) (level : ℕ) (mark : AggregateMark)
     (n : ℕ) where
-  pub aggregate_stood : {j : Input ℕ} (inner count : ℕ) → level ≡ suc inner → count ≡ many mark n
+  pub aggregate_stood : {j : Input ℕ} (inner count : ℕ) → level ≡ suc inner
+      → count ≡ element_count mark n
       → (list : Vec (Replies A) A) (reply : Replies A)
       → shape_of reply ≡ (Aggregate mark, Items list)
       → MatchesEachCompletion bytes_reading bytes_follow
@@ -100,7 +101,7 @@ module _ {A : Type 0} {i : Input ℕ} (protocol : Protocol) (level : ℕ) (mark 
       (front, (k, a), split). (front, (list, is, (k ∙ m, a)), split)))
 
   pub aggregate_failed : {j : Input ℕ} {k : Kind} (inner count : ℕ) → level ≡ suc inner
-      → count ≡ many mark n
+      → count ≡ element_count mark n
       → Failed bytes_reading bytes_follow
       (First (RowOf (ReplyText {A = A} protocol inner) count)) i k j
       → Failed bytes_reading bytes_follow
@@ -114,13 +115,14 @@ module _ {A : Type 0} {i : Input ℕ} (protocol : Protocol) (level : ℕ) (mark 
       → Failed bytes_reading bytes_follow
       (First (AfterSize (Elements {A = A} protocol level) (Aggregate mark) (Some n))) i k i
   unfolding First ElementsIn
-  too_deep e b = rw e (refused b (λ tokens o rest (front, (list, is, (many, never)), split). never))
+  too_deep e b = rw e
+      (refused b (λ tokens o rest (front, (list, is, (element_count, never)), split). never))
 
 -- ---- sizes
 
 -- a size that gives an aggregate too many replies is not valid
 pub too_many : {A : Type 0} {i j : Input ℕ} {k : Kind} (elements : Text ℕ (List (Replies A)))
-    (mark : AggregateMark) (n : ℕ) → 2 ^ 64 ≤ many mark n → k ≡ backtrack
+    (mark : AggregateMark) (n : ℕ) → 2 ^ 64 ≤ element_count mark n → k ≡ backtrack
     → MatchesEachCompletion bytes_reading bytes_follow (First SizeText) i (Some n) j
     → Failed bytes_reading bytes_follow
     (First (Led SizeText (AfterSize elements (Aggregate mark)))) i k j
@@ -132,6 +134,6 @@ too_many elements mark n much b s = record {
       absurd (no mark (size_small n front size) much)));
 }
   where
-    no : (mark : AggregateMark) → n < 2 ^ 63 → 2 ^ 64 ≤ many mark n → ⊥
+    no : (mark : AggregateMark) → n < 2 ^ 63 → 2 ^ 64 ≤ element_count mark n → ⊥
     no Star small large = omega (arith, small, large)
     no mark small large = omega (arith, small, large)

@@ -13,8 +13,8 @@ use Rattle.format_resp.proofs.FirstLines.{head_splits}
 use Rattle.format_resp.proofs.WrittenTexts.{deeper}
 use Rattle.format_resp.specs.Extents.{IsDue, IsReply, MatchesAtStart, Times}
 use Rattle.format_resp.specs.Extents.{count_after, data_after}
-use Rattle.format_resp.specs.Heads.{HeadText, IsSmall, Says}
-use Rattle.format_resp.specs.Resp.{Ended, Replies, ReplyText, StringText}
+use Rattle.format_resp.specs.Heads.{HeadLineText, HeadText, IsCountInRange}
+use Rattle.format_resp.specs.Resp.{Replies, ReplyText, StringText, WithLineEnd}
 use Rattle.format_resp.specs.declared.extent.Bulk.{Bulk}
 use Rattle.format_resp.specs.declared.heads.Head.{Head}
 use Rattle.format_resp.specs.declared.heads.Head.TheVariants as heads
@@ -190,14 +190,15 @@ module _ (protocol : Protocol) where
 
   -- ---- how many
 
-  line_small : (mark : Mark) (head : Head) (line : List ℕ) → Says mark head line → IsSmall head
-  line_small (Line mark) head line (is, a) = subst IsSmall (sym is) tt
+  line_small : (mark : Mark) (head : Head) (line : List ℕ) → HeadLineText mark head line
+      → IsCountInRange head
+  line_small (Line mark) head line (is, a) = subst IsCountInRange (sym is) tt
   line_small mark head line says = let (size, a, is, small) = says in small
 
   -- the number of replies in a line fits in 64 bits
   pub small_head : (head : Head) (n : ℕ) (xs : List ℕ) → HeadText protocol head xs
       → count_after head n ≤ n + 2 ^ 63
-  unfolding Led Ended
+  unfolding Led WithLineEnd
   small_head heads.Ends n xs text = omega arith
   small_head (heads.Data bulk) n xs text = omega arith
   small_head (heads.Replies k) n xs (mark, ys, zs, m, (line, says, d), e) =

@@ -9,7 +9,7 @@ use Rattle.stream_errors.specs.Growth.{grown}
 use Rattle.grammars.specs.Grammar.Lengths.{same_beginnings}
 use Rattle.winnow_grammar.specs.InTurn.{First, Led, Splits}
 use Rattle.grammars.specs.Texts.{CountedText, EachText, Text}
-use Rattle.format_resp.specs.Resp.{DataText, Ended, line_end, Shown}
+use Rattle.format_resp.specs.Resp.{DataText, WithLineEnd, line_end, Shown}
 use Rattle.std.specs.Borrow.{Bor}
 use Rattle.grammars.specs.Pairwise.{ArePairwise}
 
@@ -49,7 +49,7 @@ led_determined {X} first behind alike splits each v w tokens rest other
     each m v w (ys ++ rest) rest other (ys, a, refl) (vs, subst P (sym same) b, left)
 
 pub data_determined : (n : ℕ) → Determined (λ (x y : Bor (List ℕ)). x.now ≡ y.now) (DataText n)
-unfolding First DataText Ended CountedText
+unfolding First DataText WithLineEnd CountedText
 data_determined n x y tokens rest other (front, (xs, (many, shown), e), d)
     (back, (ys, (also, see), f), h) =
     let (same, left) = same_beginnings xs ys (line_end ++ rest) (line_end ++ other)

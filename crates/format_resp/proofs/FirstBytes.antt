@@ -8,7 +8,7 @@ use Rattle.winnow_grammar.specs.InTurn.{Failed, First, Splits, MatchesEachComple
 use Rattle.winnow_grammar.specs.InTurn.{stood_as}
 use Rattle.streams.specs.Input.{Input}
 use Rattle.streams.specs.Kind.{Kind, backtrack}
-use Rattle.format_resp.specs.Resp.{IsIn, MarkText, byte_of}
+use Rattle.format_resp.specs.Resp.{IsInProtocol, MarkText, byte_of}
 use Rattle.format_resp.specs.declared.marks.AggregateMark.TheVariants.{Bar, Greater, Percent, Star}
 use Rattle.format_resp.specs.declared.marks.AggregateMark.TheVariants.{Tilde}
 use Rattle.format_resp.specs.declared.marks.DataMark.TheVariants.{Dollar, Equals, Exclamation}
@@ -46,11 +46,11 @@ at_byte (Data Dollar) = refl
 at_byte (Aggregate Star) = refl
 at_byte mark = refl
 
-pub one_mark : (x y : Mark) → byte_of x ≡ byte_of y → x ≡ y
-one_mark x y e = same_some (sym (at_byte x) ∙ ap mark_at e ∙ at_byte y)
+pub byte_of_injective : (x y : Mark) → byte_of x ≡ byte_of y → x ≡ y
+byte_of_injective x y e = same_some (sym (at_byte x) ∙ ap mark_at e ∙ at_byte y)
 
 -- each is of RESP3
-pub of_resp3 : (mark : Mark) → IsIn Resp3 mark
+pub of_resp3 : (mark : Mark) → IsInProtocol Resp3 mark
 of_resp3 (Line Plus) = tt
 of_resp3 (Line Minus) = tt
 of_resp3 (Line Colon) = tt
@@ -64,11 +64,11 @@ module _ (protocol : Protocol) where
   mark_splits = record {
     one = λ x y tokens rest other (xs, (in_x, is), e) (ys, (in_y, are), d).
         let split = ap (λ l. l ++ rest) (sym is) ∙ sym e ∙ d ∙ ap (λ l. l ++ other) are in
-        (one_mark x y (same_first split), same_others split);
+        (byte_of_injective x y (same_first split), same_others split);
   }
 
   module _ {i j : Input ℕ} where
-    pub mark_stood : (byte : ℕ) (mark : Mark) → IsIn protocol mark → byte ≡ byte_of mark
+    pub mark_stood : (byte : ℕ) (mark : Mark) → IsInProtocol protocol mark → byte ≡ byte_of mark
         → MatchesEachCompletion bytes_reading bytes_follow (Token (λ b. b)) i byte j
         → MatchesEachCompletion bytes_reading bytes_follow (First (MarkText protocol)) i mark j
     unfolding Token First MarkText
@@ -83,7 +83,7 @@ module _ (protocol : Protocol) where
 
     -- a byte that no reply begins with
     pub no_mark : {k : Kind} (byte : ℕ) → k ≡ backtrack
-        → ((mark : Mark) → IsIn protocol mark → byte ≡ byte_of mark → ⊥)
+        → ((mark : Mark) → IsInProtocol protocol mark → byte ≡ byte_of mark → ⊥)
         → MatchesEachCompletion bytes_reading bytes_follow (Token (λ b. b)) i byte j
         → Failed bytes_reading bytes_follow (First (MarkText protocol)) i k j
     unfolding Token First MarkText

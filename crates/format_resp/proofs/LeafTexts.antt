@@ -15,7 +15,7 @@ use Rattle.grammars.specs.Texts.{IsGrammarOf, Text}
 use Rattle.grammars.specs.Texts.Tokens.{counted_of, divides_either, divides_others, divides_seen}
 use Rattle.grammars.specs.Texts.Tokens.{divides_where, longest_of}
 use Rattle.winnow_grammar.specs.InTurn.{First}
-use Rattle.format_resp.specs.Resp.{DataText, Ended, LineText, line_end}
+use Rattle.format_resp.specs.Resp.{DataText, LineText, WithLineEnd, line_end}
 
 -- the end of a line, as it is read
 abbrev pub EndRead : Grammar ℕ (Bor (List ℕ))
@@ -24,8 +24,8 @@ EndRead = searches.LiterallyBytes bytes_reading (λ text xs. xs ≡ text.now) (1
 -- a text is followed by a line ending
 ended_of : {O : Type 0} {g : Grammar ℕ O} (text : Text ℕ O) {follow : List ℕ → Type 0}
     → IsGrammarOf g text follow → ((rest : List ℕ) → follow (line_end ++ rest))
-    → Same (Both (λ o1 o2. o1) g EndRead) (First (Ended text))
-unfolding Both Literally Ended First
+    → Same (Both (λ o1 o2. o1) g EndRead) (First (WithLineEnd text))
+unfolding Both Literally WithLineEnd First
 ended_of {O} {g} text is may = record {
   there = λ tokens o rest (o1, o2, mid, x, (ys, slice, (end, was, spelled), shown, d, same), out).
       let (xs, e, a) = is.there tokens o1 mid x in (

@@ -11,7 +11,7 @@ use Rattle.std.proofs.lemmas.List.{append-nil, get_or-drop, take-append-drop, ta
 use Rattle.memchr.specs.Find.{is_byte2}
 use Rattle.streams.specs.Equal.{same_first, same_others, true_is_false}
 use Rattle.format_resp.specs.Lines.{EndsLine, IsOpen}
-use Rattle.format_resp.specs.Resp.{InLine, line_end, Ended, LineText}
+use Rattle.format_resp.specs.Resp.{IsLineByte, line_end, WithLineEnd, LineText}
 use Rattle.std.specs.Borrow.{Bor}
 use Rattle.std.proofs.lemmas.List.Elements.{All-from_recursion, recursion_from_All}
 use Rattle.streams.specs.Bytes.{bytes_follow, bytes_reading}
@@ -22,15 +22,15 @@ use Rattle.streams.specs.Input.{Input}
 use Rattle.streams.specs.Kind.{Kind, backtrack}
 use Rattle.grammars.specs.Texts.{Members, Text}
 
-pub all_append : (xs ys : List ℕ) → AllByRecursion InLine xs → AllByRecursion InLine ys
-    → AllByRecursion InLine (xs ++ ys)
+pub all_append : (xs ys : List ℕ) → AllByRecursion IsLineByte xs → AllByRecursion IsLineByte ys
+    → AllByRecursion IsLineByte (xs ++ ys)
 all_append [] ys a b = b
 all_append (x ∷ xs) ys a b = (a.0, all_append xs ys a.1 b)
 
 -- bytes without a byte of a line ending
 none_plain : (ys : List ℕ) (k : ℕ)
     → ((j : ℕ) → j < k → is_byte2 13 10 (slice_index ys j) ≡ true → ⊥)
-    → AllByRecursion InLine (take k ys)
+    → AllByRecursion IsLineByte (take k ys)
 none_plain [] zero f = tt
 none_plain [] (suc k) f = tt
 none_plain (y ∷ ys) zero f = tt
@@ -47,15 +47,15 @@ none_plain (y ∷ ys) (suc k) f = (
 
 -- and the bytes before them have none either
 plain_before : (xs unseen : List ℕ) (n k : ℕ) → unseen ≡ drop n xs
-    → AllByRecursion InLine (take n xs)
+    → AllByRecursion IsLineByte (take n xs)
     → ((j : ℕ) → j < k → is_byte2 13 10 (slice_index unseen j) ≡ true → ⊥)
-    → AllByRecursion InLine (take (n + k) xs)
+    → AllByRecursion IsLineByte (take (n + k) xs)
 plain_before xs unseen n k e all none =
-    subst (AllByRecursion InLine) (sym (take-add n k xs))
+    subst (AllByRecursion IsLineByte) (sym (take-add n k xs))
     (all_append (take n xs) (take k (drop n xs)) all (rw e at (none_plain unseen k none)))
 
 -- no line ends in a line
-pub plain_none : (xs line rest : List ℕ) → AllByRecursion InLine xs
+pub plain_none : (xs line rest : List ℕ) → AllByRecursion IsLineByte xs
     → xs ≡ line ++ (13 ∷ rest) → ⊥
 plain_none [] [] rest a e = cc
 plain_none [] (l ∷ line) rest a e = cc
@@ -64,23 +64,23 @@ plain_none (x ∷ xs) (l ∷ line) rest a e =
     plain_none xs line rest a.1 (let d : xs ≡ line ++ (13 ∷ rest) = cc in d)
 
 -- a line ends at the first byte that is in none
-pub until_end : (c d : ℕ) (xs ys rest other : List ℕ) → AllByRecursion InLine xs
-    → AllByRecursion InLine ys → (InLine c → ⊥) → (InLine d → ⊥)
+pub until_end : (c d : ℕ) (xs ys rest other : List ℕ) → AllByRecursion IsLineByte xs
+    → AllByRecursion IsLineByte ys → (IsLineByte c → ⊥) → (IsLineByte d → ⊥)
     → xs ++ (c ∷ rest) ≡ ys ++ (d ∷ other) → (xs ≡ ys) × (c ≡ d) × (rest ≡ other)
 until_end c d [] [] rest other a b m n e = (refl, cc, cc)
 until_end c d [] (y ∷ ys) rest other a b m n e =
-    absurd (m (subst InLine (sym (same_first e)) b.0))
-until_end c d (x ∷ xs) [] rest other a b m n e = absurd (n (subst InLine (same_first e) a.0))
+    absurd (m (subst IsLineByte (sym (same_first e)) b.0))
+until_end c d (x ∷ xs) [] rest other a b m n e = absurd (n (subst IsLineByte (same_first e) a.0))
 until_end c d (x ∷ xs) (y ∷ ys) rest other a b m n e =
     let (same, first, left) = until_end c d xs ys rest other a.1 b.1 m n (same_others e) in
     (let f : x ∷ xs ≡ y ∷ ys = cc in f, first, left)
 
-pub return_ends : InLine 13 → ⊥
+pub return_ends : IsLineByte 13 → ⊥
 return_ends a = a.0 refl
 
 -- lines at the start of the same tokens are equal
-pub one_line : (tokens front back xs ys rest other : List ℕ) → AllByRecursion InLine xs
-    → AllByRecursion InLine ys → front ≡ xs ++ line_end → tokens ≡ front ++ rest
+pub one_line : (tokens front back xs ys rest other : List ℕ) → AllByRecursion IsLineByte xs
+    → AllByRecursion IsLineByte ys → front ≡ xs ++ line_end → tokens ≡ front ++ rest
     → back ≡ ys ++ line_end → tokens ≡ back ++ other → (xs ≡ ys) × (rest ≡ other)
 one_line tokens front back xs ys rest other a b e d f h =
     let split = sym (append_assoc xs line_end rest) ∙ ap (λ l. l ++ rest) (sym e) ∙ sym d ∙ h
@@ -90,7 +90,7 @@ one_line tokens front back xs ys rest other a b e d f h =
     (same, same_others left)
 
 -- a carriage return without a line feed does not end a line
-pub open_none : (xs line rest : List ℕ) → AllByRecursion InLine xs
+pub open_none : (xs line rest : List ℕ) → AllByRecursion IsLineByte xs
     → EndsLine (xs ++ (13 ∷ [])) line rest
     → ⊥
 open_none xs line rest a (b, e) =
@@ -108,15 +108,15 @@ open_endless tokens (xs, all, inr e) line rest (a, f) =
 -- ---- the bytes after a line, where a line ending is or not
 
 module _ (xs line behind : List ℕ) (split : xs ≡ line ++ behind)
-    (all : AllByRecursion InLine line) where
+    (all : AllByRecursion IsLineByte line) where
   pub ended_whole : (left : List ℕ) → behind ≡ line_end ++ left → EndsLine xs line left
   ended_whole left e = (all, split ∙ ap (λ l. line ++ l) e)
 
   pub ended_open : (x : ℕ) (more : List ℕ) → line_end ≡ behind ++ (x ∷ more)
-      → (length line ≤ length xs) × AllByRecursion InLine (take (length line) xs) × IsOpen xs
+      → (length line ≤ length xs) × AllByRecursion IsLineByte (take (length line) xs) × IsOpen xs
   ended_open x more e = rw split (
     omega (arith, length-append line behind),
-    subst (AllByRecursion InLine) (sym (take-append_seam line behind)) all,
+    subst (AllByRecursion IsLineByte) (sym (take-append_seam line behind)) all,
     (line, all, part behind e),
   )
     where
@@ -134,7 +134,7 @@ module _ (xs line behind : List ℕ) (split : xs ≡ line ++ behind)
   ended_never test none more other rest (each, e) = none more rest (starts behind test
       (sym (append_assoc line behind more) ∙ ap (λ l. l ++ more) (sym split) ∙ e))
     where
-      stops : (c : ℕ) → is_byte2 13 10 c ≡ true → InLine c → ⊥
+      stops : (c : ℕ) → is_byte2 13 10 c ≡ true → IsLineByte c → ⊥
       stops c is (no_return, no_feed) = grind (arith, nat_tests)
 
       starts : (ys : List ℕ) → is_byte2 13 10 (slice_index ys 0) ≡ true
@@ -147,19 +147,19 @@ module _ (xs line behind : List ℕ) (split : xs ≡ line ++ behind)
 -- ---- bytes that were searched before
 
 -- all of it
-pub open_all : (xs : List ℕ) → AllByRecursion InLine xs → (length xs ≤ length xs)
-    × AllByRecursion InLine (take (length xs) xs) × IsOpen xs
+pub open_all : (xs : List ℕ) → AllByRecursion IsLineByte xs → (length xs ≤ length xs)
+    × AllByRecursion IsLineByte (take (length xs) xs) × IsOpen xs
 open_all xs all = (
   omega arith,
-  subst (AllByRecursion InLine) (sym (take_all (length xs) xs (omega arith))) all,
+  subst (AllByRecursion IsLineByte) (sym (take_all (length xs) xs (omega arith))) all,
   (xs, all, inl refl),
 )
 
 -- more than there is
 pub open_past : (xs : List ℕ) (n : ℕ) → (length xs < n) ⊎ (length xs < length xs)
-    → AllByRecursion InLine (take n xs) → AllByRecursion InLine xs
+    → AllByRecursion IsLineByte (take n xs) → AllByRecursion IsLineByte xs
 open_past xs n (inl less) all =
-    subst (AllByRecursion InLine) (take_all n xs (omega (arith, less))) all
+    subst (AllByRecursion IsLineByte) (take_all n xs (omega (arith, less))) all
 open_past xs n (inr less) all = absurd (omega (arith, less))
 
 -- the bytes not searched yet are the rest
@@ -169,12 +169,12 @@ unseen_rest xs unseen n e =
     e ∙ take_all (length xs - n) (drop n xs) (omega (arith, length-drop n xs))
 
 pub open_rest : (xs unseen : List ℕ) (n : ℕ) → unseen ≡ take (length xs - n) (drop n xs)
-    → AllByRecursion InLine (take n xs)
+    → AllByRecursion IsLineByte (take n xs)
     → ((k : ℕ) → 0 ≤ k → k < length unseen → is_byte2 13 10 (slice_index unseen k) ≡ true → ⊥)
-    → AllByRecursion InLine xs
+    → AllByRecursion IsLineByte xs
 open_rest xs unseen n e all none =
     let d = unseen_rest xs unseen n e in
-    subst (AllByRecursion InLine) (take_all (n + length unseen) xs
+    subst (AllByRecursion IsLineByte) (take_all (n + length unseen) xs
     (omega (arith, ap (λ l. length l) d, length-drop n xs)))
     (plain_before xs unseen n (length unseen) d all (λ j less. none j (omega arith) less))
 
@@ -192,29 +192,29 @@ found_first xs unseen n k e test =
 
 -- a line that is found, and what is behind it
 pub found_line : (xs unseen line behind : List ℕ) (n k : ℕ)
-    → unseen ≡ take (length xs - n) (drop n xs) → AllByRecursion InLine (take n xs)
+    → unseen ≡ take (length xs - n) (drop n xs) → AllByRecursion IsLineByte (take n xs)
     → ((j : ℕ) → j < k → is_byte2 13 10 (slice_index unseen j) ≡ true → ⊥)
     → is_byte2 13 10 (slice_index unseen k) ≡ true → line ≡ take (n + k) xs
-    → behind ≡ drop (n + k) xs → (xs ≡ line ++ behind) × AllByRecursion InLine line
+    → behind ≡ drop (n + k) xs → (xs ≡ line ++ behind) × AllByRecursion IsLineByte line
     × (is_byte2 13 10 (slice_index behind 0) ≡ true)
 found_line xs unseen line behind n k is all none test front back =
     let T : List ℕ → Type 0 = λ l. is_byte2 13 10 (slice_index l 0) ≡ true in (
       sym (ap (λ l. l ++ behind) front ∙ ap (λ l. take (n + k) xs ++ l) back
           ∙ take-append-drop (n + k) xs),
-      subst (AllByRecursion InLine) (sym front)
+      subst (AllByRecursion IsLineByte) (sym front)
           (plain_before xs unseen n k (unseen_rest xs unseen n is) all none),
       subst T (sym back) (found_first xs unseen n k is test),
     )
 
 -- Texts without bytes of a line ending.
 pub record IsPlain {O : Type 0} (text : Text ℕ O) : Type 0 where
-  pub plain : (o : O) (xs : List ℕ) → text o xs → AllByRecursion InLine xs
+  pub plain : (o : O) (xs : List ℕ) → text o xs → AllByRecursion IsLineByte xs
 
 module _ {O : Type 0} (text : Text ℕ O) (p : IsPlain text) where
   -- where each is of one value
   pub ended_splits : ((o q : O) (xs : List ℕ) → text o xs → text q xs → o ≡ q)
-      → Splits (Ended text)
-  unfolding First Ended
+      → Splits (WithLineEnd text)
+  unfolding First WithLineEnd
   ended_splits one = record {
     one = λ o q tokens rest other (front, (xs, a, e), d) (back, (ys, b, f), h).
         let (same, left) = one_line tokens front back xs ys rest other (p.plain o xs a)
@@ -225,32 +225,33 @@ module _ {O : Type 0} (text : Text ℕ O) (p : IsPlain text) where
   module _ {i j : Input ℕ} where
     -- if there is no line, there is no line with this text either
     pub ended_none : {k : Kind} → Failed bytes_reading bytes_follow (First LineText) i k j
-        → Failed bytes_reading bytes_follow (First (Ended text)) i k j
-    unfolding First LineText Ended Members
+        → Failed bytes_reading bytes_follow (First (WithLineEnd text)) i k j
+    unfolding First LineText WithLineEnd Members
     ended_none = failed_as (λ tokens none o rest (front, (xs, a, e), d).
         let (line, shown) = slice_for xs in
         none line rest (
           front,
-          (xs, (All-from_recursion InLine xs (p.plain o xs a), omega arith, shown), e),
+          (xs, (All-from_recursion IsLineByte xs (p.plain o xs a), omega arith, shown), e),
           d,
         ))
 
     -- all of a line
     pub ended_stood : (line : Bor (List ℕ)) (o : O)
-        → (AllByRecursion InLine line.now → text o line.now)
+        → (AllByRecursion IsLineByte line.now → text o line.now)
         → MatchesEachCompletion bytes_reading bytes_follow (First LineText) i line j
-        → MatchesEachCompletion bytes_reading bytes_follow (First (Ended text)) i o j
-    unfolding First LineText Ended Members
+        → MatchesEachCompletion bytes_reading bytes_follow (First (WithLineEnd text)) i o j
+    unfolding First LineText WithLineEnd Members
     ended_stood line o is = stood_as (λ tokens rest (front, (xs, (all, enough, shown), e), d).
-        let plain = subst (AllByRecursion InLine) (sym shown) (recursion_from_All InLine xs all) in
+        let plain = subst (AllByRecursion IsLineByte) (sym shown)
+        (recursion_from_All IsLineByte xs all) in
         (front, (xs, subst (text o) shown (is plain), e), d))
 
     -- a line that is none
     pub ended_failed : (line : Bor (List ℕ)) {k : Kind} → k ≡ backtrack
         → ((o : O) → text o line.now → ⊥)
         → MatchesEachCompletion bytes_reading bytes_follow (First LineText) i line j
-        → Failed bytes_reading bytes_follow (First (Ended text)) i k j
-    unfolding First LineText Ended Members
+        → Failed bytes_reading bytes_follow (First (WithLineEnd text)) i k j
+    unfolding First LineText WithLineEnd Members
     ended_failed line b never s = record {
       ends = s.ends;
       none = inr (inr (λ more c. (
@@ -258,7 +259,7 @@ module _ {O : Type 0} (text : Text ℕ O) (p : IsPlain text) where
         λ o rest (front, (xs, a, e), d).
             let (back, (ys, (all, enough, shown), f), h) = s.stands more c in
             let (same, left) = one_line (i.left.tokens ++ more) front back xs ys rest
-            (j.left.tokens ++ more) (p.plain o xs a) (recursion_from_All InLine ys all)
+            (j.left.tokens ++ more) (p.plain o xs a) (recursion_from_All IsLineByte ys all)
             e d f h in
             never o (subst (text o) (same ∙ sym shown) a),
       )));

@@ -16,21 +16,21 @@ use Rattle.format_resp.proofs.LineEnds.{IsPlain, ended_splits, all_append}
 use Rattle.format_resp.specs.Numbers.{AreDigits, DigitsText, IsBigNumber, IsDecimal, IsDouble}
 use Rattle.format_resp.specs.Numbers.{IsExponent, IsTail, ShortInteger, ShortSize, SignedText}
 use Rattle.format_resp.specs.Numbers.{SizeLine, inf_word, is_negative, nan_word, signed, unsigned}
-use Rattle.format_resp.specs.Resp.{Any, BooleanText, Ended, InLine, LineSays, Replies, Shown}
-use Rattle.format_resp.specs.Resp.{SizeText}
+use Rattle.format_resp.specs.Resp.{Any, BooleanText, IsLineByte, LineContents, Replies, Shown}
+use Rattle.format_resp.specs.Resp.{SizeText, WithLineEnd}
 use Rattle.format_resp.specs.declared.marks.LineMark.{LineMark}
 use Rattle.format_resp.specs.declared.marks.LineMark.TheVariants.{Colon, Comma, Hash}
 use Rattle.format_resp.specs.declared.marks.LineMark.TheVariants.{Parenthesis, Underscore}
 
 -- no byte is of a line ending
 abbrev pub Plainly : List ℕ → Type 0
-Plainly xs = AllByRecursion InLine xs
+Plainly xs = AllByRecursion IsLineByte xs
 
 pub plain_as : (xs ys : List ℕ) → xs ≡ ys → Plainly ys → Plainly xs
 plain_as xs ys e a = subst Plainly (sym e) a
 
 -- bytes above those of a line ending
-pub above : (b : ℕ) → 13 < b → InLine b
+pub above : (b : ℕ) → 13 < b → IsLineByte b
 above b more = ((λ e. omega (arith, e, more)), (λ e. omega (arith, e, more)))
 
 pub above_plain : (xs : List ℕ) → AllByRecursion (λ b. 13 < b) xs → Plainly xs
@@ -125,12 +125,12 @@ short_read (Some n) line (small, e) = (
   small,
 )
 
-pub size_read : (size : Option ℕ) (xs : List ℕ) → Ended ShortSize size xs → SizeText size xs
-unfolding SizeText Ended
+pub size_read : (size : Option ℕ) (xs : List ℕ) → WithLineEnd ShortSize size xs → SizeText size xs
+unfolding SizeText WithLineEnd
 size_read size xs (line, a, e) = (line, short_read size line a, e)
 
 pub size_small : (n : ℕ) (xs : List ℕ) → SizeText (Some n) xs → n < 2 ^ 63
-unfolding SizeText Ended
+unfolding SizeText WithLineEnd
 size_small n xs (line, (a, small), e) = small
 
 number_plain : (xs : List ℕ) → IsBigNumber xs → Plainly xs
@@ -174,7 +174,7 @@ boolean_plain true xs e = plain_as xs (116 ∷ []) e (above 116 (omega arith), t
 boolean_plain false xs e = plain_as xs (102 ∷ []) e (above 102 (omega arith), tt)
 
 module _ {A : Type 0} where
-  says_plain : (mark : LineMark) (reply : Replies A) (xs : List ℕ) → LineSays Any mark reply xs
+  says_plain : (mark : LineMark) (reply : Replies A) (xs : List ℕ) → LineContents Any mark reply xs
       → Plainly xs
   unfolding Shown
   says_plain Colon reply xs (n, is, a) = signed_plain n xs a
@@ -184,5 +184,5 @@ module _ {A : Type 0} where
   says_plain Parenthesis reply xs (text, is, (a, shown)) = number_plain xs a
   says_plain mark reply xs says = let (text, is, (a, shown)) = says in a
 
-  pub line_plain : (mark : LineMark) → IsPlain (LineSays {A = A} Any mark)
+  pub line_plain : (mark : LineMark) → IsPlain (LineContents {A = A} Any mark)
   line_plain mark = record { plain = says_plain mark }

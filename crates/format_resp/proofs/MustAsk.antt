@@ -24,9 +24,9 @@ kind_if true k = k
 kind_if false memory = memory
 kind_if false k = backtrack
 
-pub backs : (more : Bool) {k : Kind} → k ≡ backtrack → kind_if more k ≡ backtrack
-backs true e = e
-backs false e = ap (λ k. kind_if false k) e
+pub backtracks_if : (more : Bool) {k : Kind} → k ≡ backtrack → kind_if more k ≡ backtrack
+backtracks_if true e = e
+backtracks_if false e = ap (λ k. kind_if false k) e
 
 pub wants : (more : Bool) {k : Kind} → k ≡ memory → kind_if more k ≡ memory
 wants true e = e
@@ -57,10 +57,10 @@ ReadsIf more reading following kind grammar i result j =
 
 module _ {T L O E : Type 0} {reading : Reading T L} {following : Following T} {kind : E → Kind}
     {grammar : Grammar T O} {i j : Input T} where
-  pub each : {result : Result O E} → ReadsOrMustAsk reading following kind grammar i result j
+  pub reads_if : {result : Result O E} → ReadsOrMustAsk reading following kind grammar i result j
       → (more : Bool) → ReadsIf more reading following kind grammar i result j
-  each r true = r.reads
-  each {result = Ok o} r false = record {
+  reads_if r true = r.reads
+  reads_if {result = Ok o} r false = record {
     whole = record {
       ends = record { ends = r.reads.whole.ends.ends; cut = refl };
       stands = λ whole. r.first;
@@ -68,7 +68,7 @@ module _ {T L O E : Type 0} {reading : Reading T L} {following : Following T} {k
     };
     cut = λ cut. true_is_false (sym cut);
   }
-  each {result = Err e} r false = record {
+  reads_if {result = Err e} r false = record {
     whole = record {
       ends = record { ends = r.reads.whole.ends.ends; cut = refl };
       stands = λ whole. tt;
@@ -77,10 +77,10 @@ module _ {T L O E : Type 0} {reading : Reading T L} {following : Following T} {k
     cut = λ cut. true_is_false (sym cut);
   }
 
-  pub both : {result : Result O E}
+  pub reads_both_ways : {result : Result O E}
       → ((more : Bool) → ReadsIf more reading following kind grammar i result j)
       → ReadsOrMustAsk reading following kind grammar i result j
-  both {result = Ok o} r =
+  reads_both_ways {result = Ok o} r =
       record { reads = r true; first = (r false).whole.stands refl }
-  both {result = Err e} r =
+  reads_both_ways {result = Err e} r =
       record { reads = r true; first = if_none (kind e) ((r false).whole.none refl) }

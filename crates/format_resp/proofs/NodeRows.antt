@@ -5,7 +5,7 @@ use Rattle.std.proofs.lemmas.List.{append-nil}
 use Rattle.format_resp.proofs.Overlay.{overlay_none, overlay_then}
 use Rattle.format_resp.specs.Nodes.{EachNodes, NodesAt, NodesOf}
 use Rattle.format_resp.specs.Resp.{Replies}
-use Rattle.format_resp.specs.Writing.{ReplyNodes, RowNodes, Writes, overlay}
+use Rattle.format_resp.specs.Writing.{ReplyNodes, RowNodes, WritesNodes, overlay}
 use Rattle.format_resp.specs.declared.node.RespNode.{RespNode}
 use Rattle.format_resp.specs.declared.reply.Protocol.{Protocol}
 
@@ -53,7 +53,7 @@ module _ {A : Type 0} (nodes_of : Replies A → NodesAt) where
       )
 
 module _ (protocol : Protocol) (level size index : ℕ) {bytes : List ℕ} {old : List RespNode} where
-  pub row_none : Writes (RowNodes protocol level 0) size index bytes bytes index old old
+  pub row_none : WritesNodes (RowNodes protocol level 0) size index bytes bytes index old old
   unfolding EachNodes
   row_none = record {
     nodes = [];
@@ -67,9 +67,9 @@ module _ (protocol : Protocol) (level size index : ℕ) {bytes : List ℕ} {old 
 
   pub row_more : {k mid next : ℕ} {between rest : List ℕ} {now new : List RespNode}
       → index + length bytes ≤ size
-      → Writes (RowNodes protocol level k) size index bytes between mid old now
-      → Writes (ReplyNodes protocol level) size mid between rest next now new
-      → Writes (RowNodes protocol level (k + 1)) size index bytes rest next old new
+      → WritesNodes (RowNodes protocol level k) size index bytes between mid old now
+      → WritesNodes (ReplyNodes protocol level) size mid between rest next now new
+      → WritesNodes (RowNodes protocol level (k + 1)) size index bytes rest next old new
   row_more {k} {mid} {next} {between} {rest} room row one =
       let (replies, count, are) = row.are_nodes in
       let (reply, is) = one.are_nodes in
@@ -103,7 +103,7 @@ module _ (protocol : Protocol) (level size index : ℕ) {bytes : List ℕ} {old 
 -- a node for each byte of the rest would not exceed the size
 pub writes_room : {P : NodesAt} (size index : ℕ) {bytes rest : List ℕ} {next : ℕ}
     {old new : List RespNode} → index + length bytes ≤ size
-    → Writes P size index bytes rest next old new → next + length rest ≤ size
+    → WritesNodes P size index bytes rest next old new → next + length rest ≤ size
 writes_room size index {rest = rest} room it = omega (
   arith,
   room,

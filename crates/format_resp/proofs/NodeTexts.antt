@@ -6,15 +6,16 @@ use Rattle.std.proofs.Common.{◌∙◌, ap, append_assoc, arith, length-append,
 use Rattle.std.proofs.lemmas.List.{append-nil}
 use Rattle.streams.specs.Equal.{same_first, same_others}
 use Rattle.winnow_grammar.specs.InTurn.{First, Led}
-use Rattle.format_resp.proofs.FirstBytes.{one_mark}
+use Rattle.format_resp.proofs.FirstBytes.{byte_of_injective}
 use Rattle.format_resp.proofs.FirstLines.{LineAt, line_at}
-use Rattle.format_resp.proofs.Made.{shaped, null_is}
-use Rattle.format_resp.specs.Heads.{HeadText, Says, IsAfter}
+use Rattle.format_resp.proofs.Made.{shape_of_equal, reply_of_null}
+use Rattle.format_resp.specs.Heads.{HeadText, HeadLineText, IsHeadAfterSize}
 use Rattle.format_resp.specs.Nodes.{IsNode, bytes_node, kind_by, number_node, null_kind}
 use Rattle.format_resp.specs.Numbers.{SignedText, SizeLine}
-use Rattle.format_resp.specs.Resp.{Any, Body, Bytes, Content, Elements, Ended, IsIn, LineSays}
-use Rattle.format_resp.specs.Resp.{MarkText, Nothing, Number, Replies, ReplyText, Shown, SizeText}
-use Rattle.format_resp.specs.Resp.{byte_of, line_end, shape_of, AfterSize, IsNullable}
+use Rattle.format_resp.specs.Resp.{Any, Body, Bytes, Content, Elements, WithLineEnd, IsInProtocol}
+use Rattle.format_resp.specs.Resp.{LineContents, MarkText, Nothing, Number, Replies, ReplyText}
+use Rattle.format_resp.specs.Resp.{Shown, SizeText, byte_of, line_end, shape_of, AfterSize}
+use Rattle.format_resp.specs.Resp.{MayBeNull}
 use Rattle.format_resp.specs.Writing.{IsLineNode, IsSingleNode}
 use Rattle.format_resp.specs.declared.heads.Head.{Head}
 use Rattle.format_resp.specs.declared.heads.Head.TheVariants as heads
@@ -31,11 +32,11 @@ use Rattle.format_resp.specs.declared.reply.Protocol.{Protocol}
 use Rattle.format_resp.specs.declared.reply.Reply as made
 use Rattle.format_resp.specs.declared.reply.Reply.TheViews.{rolls-Integer}
 
-pub bulk_kind : (mark : DataMark) → IsNullable (Data mark) → 4 ≡ null_kind (Data mark)
+pub bulk_kind : (mark : DataMark) → MayBeNull (Data mark) → 4 ≡ null_kind (Data mark)
 bulk_kind Dollar null = refl
 bulk_kind mark never = absurd never
 
-pub array_kind : (mark : AggregateMark) → IsNullable (Aggregate mark)
+pub array_kind : (mark : AggregateMark) → MayBeNull (Aggregate mark)
     → 6 ≡ null_kind (Aggregate mark)
 array_kind Star null = refl
 array_kind mark never = absurd never
@@ -51,7 +52,7 @@ shaped_node mark content reply from index text node is =
 module _ (protocol : Protocol) where
   -- a reply, by what follows its mark
   text_by : {A : Type 0} (level : ℕ) (mark : Mark) (reply : Replies A) (body : List ℕ)
-      → IsIn protocol mark → Body Any (Elements protocol level) mark reply body
+      → IsInProtocol protocol mark → Body Any (Elements protocol level) mark reply body
       → ReplyText protocol level reply (byte_of mark ∷ body)
   unfolding Led MarkText
   text_by level mark reply body within is =
@@ -59,10 +60,10 @@ module _ (protocol : Protocol) where
 
   -- the same for a size, and what follows it
   pub sized_text : {A : Type 0} (level : ℕ) (mark : Mark) (size : Option ℕ) (reply : Replies A)
-      (line behind : List ℕ) → IsIn protocol mark → SizeLine size line
+      (line behind : List ℕ) → IsInProtocol protocol mark → SizeLine size line
       → AfterSize (Elements protocol level) mark size reply behind
       → ReplyText protocol level reply (byte_of mark ∷ ((line ++ line_end) ++ behind))
-  unfolding Led SizeText Ended
+  unfolding Led SizeText WithLineEnd
   sized_text level (Line mark) None reply line behind within is (never, nothing) = absurd never
   sized_text level (Line mark) (Some n) reply line behind within is never = absurd never
   sized_text level mark size reply line behind within is follows =
@@ -70,19 +71,19 @@ module _ (protocol : Protocol) where
       (size, line ++ line_end, behind, (line, is, refl), follows, refl)
 
   line_text : {A : Type 0} (level : ℕ) (mark : LineMark) (reply : Replies A) (line : List ℕ)
-      → IsIn protocol (Line mark) → LineSays Any mark reply line
+      → IsInProtocol protocol (Line mark) → LineContents Any mark reply line
       → ReplyText protocol level reply (byte_of (Line mark) ∷ (line ++ line_end))
-  unfolding Ended
+  unfolding WithLineEnd
   line_text level mark reply line within says =
       text_by level (Line mark) reply (line ++ line_end) within (line, says, refl)
 
   -- a reply with a size that ends with its first line is null
-  null_reply : (mark : Mark) (size : Option ℕ) (line : List ℕ) → IsIn protocol mark
-      → SizeLine size line → IsAfter mark size heads.Ends
-      → IsNullable mark × ((reply : Replies ⊤) × (shape_of reply ≡ (mark, Nothing))
+  null_reply : (mark : Mark) (size : Option ℕ) (line : List ℕ) → IsInProtocol protocol mark
+      → SizeLine size line → IsHeadAfterSize mark size heads.Ends
+      → MayBeNull mark × ((reply : Replies ⊤) × (shape_of reply ≡ (mark, Nothing))
       × ((level : ℕ) → ReplyText protocol level reply (byte_of mark ∷ (line ++ line_end))))
   null_reply mark None line within is (null, e) =
-      let (reply, shape_is) = null_is mark null in (
+      let (reply, shape_is) = reply_of_null mark null in (
         null,
         (
           reply,
@@ -116,30 +117,30 @@ module _ (protocol : Protocol) where
         }
 
     pub ended_null : (mark : Mark) → ((of : LineMark) → mark ≡ Line of → ⊥)
-        → (IsNullable mark → node ≡ number_node (null_kind mark) (pos 0) (index + 1))
+        → (MayBeNull mark → node ≡ number_node (null_kind mark) (pos 0) (index + 1))
         → (at : LineAt protocol bytes heads.Ends rest) → at.mark ≡ mark
         → IsSingleNode protocol size index bytes rest node
     ended_null (Line mark) sized node_is at is = absurd (sized mark refl)
     ended_null mark sized node_is at is =
-        let P : Mark → Type 0 = λ m. Says m heads.Ends at.line in
+        let P : Mark → Type 0 = λ m. HeadLineText m heads.Ends at.line in
         let (given, sizes, after, small) = subst P is at.says in
         let (null, (reply, shape_is, texts)) =
-        null_reply mark given at.line (subst (IsIn protocol) is at.within) sizes after in
+        null_reply mark given at.line (subst (IsInProtocol protocol) is at.within) sizes after in
         ended_by mark reply at is texts
         (shaped_node mark Nothing reply (size - length bytes) index
         (byte_of mark ∷ (at.line ++ line_end)) node shape_is (node_is null))
 
     pub ended_line : (mark : LineMark) (start : ℕ) → start + length bytes ≡ size + 1
         → length bytes ≤ size → (at : LineAt protocol bytes heads.Ends rest) → at.mark ≡ Line mark
-        → ((reply : Replies ⊤) → LineSays Any mark reply at.line
+        → ((reply : Replies ⊤) → LineContents Any mark reply at.line
         → IsLineNode mark at.line start index node)
         → IsSingleNode protocol size index bytes rest node
     ended_line mark start begins room at is node_of =
-        let P : Mark → Type 0 = λ m. Says m heads.Ends at.line in
+        let P : Mark → Type 0 = λ m. HeadLineText m heads.Ends at.line in
         let (same, (other, says_other)) = subst P is at.says in
         let (reply, says, node_is) = node_of other says_other in
         ended_by (Line mark) reply at is (λ level. line_text level mark reply at.line
-        (subst (IsIn protocol) is at.within) says)
+        (subst (IsInProtocol protocol) is at.within) says)
         (node_is (size - length bytes) (byte_of (Line mark) ∷ (at.line ++ line_end))
         (omega (arith, begins, room, length-append at.line line_end)))
 
@@ -149,7 +150,7 @@ module _ (line : List ℕ) (start index : ℕ) (node : RespNode) where
   pub number_line : (n m : ℤ) → SignedText n line → m ≡ n → node ≡ number_node 2 m (index + 1)
       → IsLineNode Colon line start index node
   number_line n m is same e =
-      let shape_is = shaped _ refl (rolls-Integer n) in (
+      let shape_is = shape_of_equal _ refl (rolls-Integer n) in (
         made.Integer n,
         (n, shape_is, is),
         λ from text long.
@@ -172,7 +173,7 @@ module _ (line : List ℕ) (start index : ℕ) (node : RespNode) where
 
   -- a line that is the text of the reply
   pub text_line : (mark : LineMark) (reply : Replies ⊤) → (mark ≡ Colon → ⊥)
-      → (mark ≡ Underscore → ⊥) → (mark ≡ Hash → ⊥) → LineSays Any mark reply line
+      → (mark ≡ Underscore → ⊥) → (mark ≡ Hash → ⊥) → LineContents Any mark reply line
       → node ≡ bytes_node (kind_by (Line mark)) 0 start (start + length line) (index + 1)
       → IsLineNode mark line start index node
   unfolding Shown
@@ -200,7 +201,7 @@ module _ (protocol : Protocol) (head : Head) (bytes rest : List ℕ) where
   pub mark_found : (mark : Mark) (byte : ℕ) (text : List ℕ) → bytes ≡ byte ∷ text
       → byte ≡ byte_of mark → (at : LineAt protocol bytes head rest) → at.mark ≡ mark
   mark_found mark byte text e is at =
-      one_mark at.mark mark (same_first (sym at.splits ∙ e) ∙ is)
+      byte_of_injective at.mark mark (same_first (sym at.splits ∙ e) ∙ is)
 
   -- the line after it
   pub line_found : (byte : ℕ) (text : List ℕ) → bytes ≡ byte ∷ text

@@ -6,18 +6,19 @@ use Rattle.std.proofs.Common.{◌∙◌, ap, append_assoc, arith, length-append,
 use Rattle.winnow_grammar.specs.InTurn.{First, Led}
 use Rattle.grammars.specs.Texts.{CountedText, EachText}
 use Rattle.format_resp.proofs.FirstLines.{line_at, says_all, start_stands}
-use Rattle.format_resp.proofs.Made.{gathered_is, string_is}
+use Rattle.format_resp.proofs.Made.{reply_of_string, shape_of_gathered}
 use Rattle.format_resp.proofs.NodeRows.{same_at}
 use Rattle.format_resp.proofs.NodeTexts.{sized_text}
-use Rattle.format_resp.proofs.WrittenTexts.{list_for}
-use Rattle.format_resp.specs.Heads.{HeadText, Says}
+use Rattle.format_resp.proofs.WrittenTexts.{list_exists}
+use Rattle.format_resp.specs.Heads.{HeadLineText, HeadText}
 use Rattle.format_resp.specs.Nodes.{ContentNodes, EachNodes, HasNodes, IsNode, NodesOf, bytes_node}
 use Rattle.format_resp.specs.Nodes.{kind_by, NodesAt}
 use Rattle.format_resp.specs.Numbers.{SizeLine}
-use Rattle.format_resp.specs.Resp.{Bytes, Content, DataText, ElementsIn, Ended, Fits, IsIn, Items}
-use Rattle.format_resp.specs.Resp.{MarkText, Nothing, Number, Replies, ReplyText, StringText, Truth}
-use Rattle.format_resp.specs.Resp.{byte_of, formatted, gathered, line_end, many, shape_of}
-use Rattle.format_resp.specs.Writing.{IsSingleNode, ReplyNodes, RowNodes, Writes, overlay}
+use Rattle.format_resp.specs.Resp.{Bytes, Content, DataText, ElementsIn, FitsFormat, IsInProtocol}
+use Rattle.format_resp.specs.Resp.{Items, MarkText, Nothing, Number, Replies, ReplyText, StringText}
+use Rattle.format_resp.specs.Resp.{Truth, WithLineEnd, byte_of, element_count, gathered, has_format}
+use Rattle.format_resp.specs.Resp.{line_end, shape_of}
+use Rattle.format_resp.specs.Writing.{IsSingleNode, ReplyNodes, RowNodes, WritesNodes, overlay}
 use Rattle.format_resp.specs.declared.extent.Bulk.{Bulk}
 use Rattle.format_resp.specs.declared.heads.Head.TheVariants as heads
 use Rattle.format_resp.specs.declared.marks.AggregateMark.{AggregateMark}
@@ -44,13 +45,13 @@ pub record StringLine (mark : Mark) (line : List ℕ) (bulk : Bulk) : Type 0 whe
   pub kind : DataMark
   pub is : mark ≡ Data kind
   pub sizes : SizeLine (Some bulk.size) line
-  pub format : formatted kind ≡ bulk.verbatim
+  pub format : has_format kind ≡ bulk.verbatim
 
-string_line : (mark : Mark) (line : List ℕ) (bulk : Bulk) → Says mark (heads.Data bulk) line
+string_line : (mark : Mark) (line : List ℕ) (bulk : Bulk) → HeadLineText mark (heads.Data bulk) line
     → StringLine mark line bulk
 string_line (Line mark) line bulk (same, other) = absurd cc
 string_line (Data mark) line bulk (Some n, a, is, small) =
-    let string : Bulk = record { size = n; verbatim = formatted mark } in
+    let string : Bulk = record { size = n; verbatim = has_format mark } in
     let same : string ≡ bulk = cc in record {
       kind = mark;
       is = refl;
@@ -67,9 +68,9 @@ pub record ListLine (mark : Mark) (line : List ℕ) (count : ℕ) : Type 0 where
   pub size : ℕ
   pub is : mark ≡ Aggregate kind
   pub sizes : SizeLine (Some size) line
-  pub counts : many kind size ≡ count
+  pub counts : element_count kind size ≡ count
 
-list_line : (mark : Mark) (line : List ℕ) (count : ℕ) → Says mark (heads.Replies count) line
+list_line : (mark : Mark) (line : List ℕ) (count : ℕ) → HeadLineText mark (heads.Replies count) line
     → ListLine mark line count
 list_line (Line mark) line count (same, other) = absurd cc
 list_line (Data mark) line count (Some n, a, is, small) = absurd cc
@@ -82,7 +83,7 @@ list_line (Aggregate mark) line count (None, a, (null, is), small) = absurd cc
 
 string_size : (bulk : Bulk) (bytes : Bor (List ℕ)) (text : List ℕ) → StringText bulk bytes text
     → (length bytes.now ≡ bulk.size) × (length text ≡ length bytes.now + 2)
-unfolding DataText Ended CountedText
+unfolding DataText WithLineEnd CountedText
 string_size bulk bytes text (fits, (xs, (counts, shows), e)) =
     let same = ap (λ l. length l) shows in (
       omega (arith, counts, same),
@@ -118,7 +119,7 @@ module _ (protocol : Protocol) where
       let at = line_at protocol bytes left head in
       let by = string_line at.mark at.line bulk at.says in
       let mark = by.kind in
-      let (reply, shape_is) = string_is {A = ⊤} mark string in
+      let (reply, shape_is) = reply_of_string {A = ⊤} mark string in
       let (fits, text_is) = is in
       let (long, whole) = string_size bulk string more is in
       let P : Mark → Type 0 = λ m. bytes ≡ byte_of m ∷ (at.line ++ (line_end ++ left)) in
@@ -131,8 +132,11 @@ module _ (protocol : Protocol) where
         reply = reply;
         text = text;
         is_reply = λ level. sized_text protocol level (Data mark) (Some bulk.size) reply at.line
-            more (subst (IsIn protocol) by.is at.within) by.sizes
-            (string, shape_is, (subst (λ b. Fits b string.now) (sym by.format) fits, text_is));
+            more (subst (IsInProtocol protocol) by.is at.within) by.sizes (
+              string,
+              shape_is,
+              (subst (λ b. FitsFormat b string.now) (sym by.format) fits, text_is),
+            );
         splits = joins;
         is_node = subst Q (sym shape_is) (
           start,
@@ -187,7 +191,7 @@ module _ (protocol : Protocol) where
   pub single_writes : (level size index : ℕ) (node : RespNode) {bytes rest : List ℕ}
       {next : ℕ} {old new : List RespNode} → IsSingleNode protocol size index bytes rest node
       → next ≡ index + 1 → new ≡ set old index node
-      → Writes (ReplyNodes protocol level) size index bytes rest next old new
+      → WritesNodes (ReplyNodes protocol level) size index bytes rest next old new
   single_writes level size index node {bytes} {old = old} it counts e = record {
     nodes = node ∷ [];
     text = it.text;
@@ -227,8 +231,9 @@ module _ (protocol : Protocol) where
 
   list_nodes : (inner from index start count : ℕ) (mark : AggregateMark) (line elements : List ℕ)
       (size : ℕ) (others : List RespNode) (replies : List (Replies ⊤))
-      → IsIn protocol (Aggregate mark) → SizeLine (Some size) line → many mark size ≡ count
-      → Says (Aggregate mark) (heads.Replies count) line → count < 2 ^ 63
+      → IsInProtocol protocol (Aggregate mark) → SizeLine (Some size) line
+      → element_count mark size ≡ count
+      → HeadLineText (Aggregate mark) (heads.Replies count) line → count < 2 ^ 63
       → length replies ≡ count
       → EachNodes (NodesOf protocol inner) replies start (index + 1) others elements
       → (text : List ℕ) → text ≡ byte_of (Aggregate mark) ∷ ((line ++ line_end) ++ elements)
@@ -239,9 +244,9 @@ module _ (protocol : Protocol) where
   unfolding NodesOf ElementsIn
   list_nodes inner from index start count mark line elements size others replies within sizes
       counts says small long row text e ends =
-      let (list, same) = list_for {A = ⊤} tt replies (omega (arith, small, long)) in
+      let (list, same) = list_exists {A = ⊤} tt replies (omega (arith, small, long)) in
       let reply = gathered mark list in
-      let shape_is = gathered_is mark list refl in
+      let shape_is = shape_of_gathered mark list refl in
       let items : length list.items ≡ count = ap (λ l. length l) same ∙ long in
       let each = each_text inner replies start (index + 1) others elements row in
       let T : List ℕ → Type 0 = λ l. ReplyText protocol (suc inner) reply l in
@@ -281,9 +286,9 @@ module _ (protocol : Protocol) where
       {left rest : List ℕ} {old now new : List RespNode} → level ≡ suc inner
       → index + length bytes ≤ size → start + length left ≡ size → end + length rest ≡ size
       → IsKind kind bytes → First (HeadText protocol) bytes (heads.Replies count) left
-      → Writes (RowNodes protocol inner count) size (index + 1) left rest next old now
+      → WritesNodes (RowNodes protocol inner count) size (index + 1) left rest next old now
       → new ≡ set now index (bytes_node kind count start end next)
-      → Writes (ReplyNodes protocol level) size index bytes rest next old new
+      → WritesNodes (ReplyNodes protocol level) size index bytes rest next old new
   list_writes inner size index count level kind start end next bytes {left} {rest} {old} {now}
       {new} above room begins stops kinds head row e =
       let at = line_at protocol bytes left head in
@@ -291,7 +296,7 @@ module _ (protocol : Protocol) where
       let mark = by.kind in
       let (replies, long, are) = row.are_nodes in
       let P : Mark → Type 0 = λ m. bytes ≡ byte_of m ∷ (at.line ++ (line_end ++ left)) in
-      let Q : Mark → Type 0 = λ m. Says m (heads.Replies count) at.line in
+      let Q : Mark → Type 0 = λ m. HeadLineText m (heads.Replies count) at.line in
       let says = subst Q by.is at.says in
       let (given, sizes, counts, small) = says in
       let splits = subst P by.is at.splits in
@@ -309,12 +314,13 @@ module _ (protocol : Protocol) where
       same_node start (kinds (Aggregate mark) _ splits) refl
       (omega (arith, stops, room, whole, parts)) row.counts in
       let after : index + 1 ≡ suc index = omega arith in
-      let W : ℕ → Type 0 = λ l. Writes (ReplyNodes protocol l) size index bytes rest next old new in
+      let W : ℕ → Type 0 =
+      λ l. WritesNodes (ReplyNodes protocol l) size index bytes rest next old new in
       subst W (sym above) (record {
         nodes = node ∷ row.nodes;
         text = text;
         are_nodes = list_nodes inner from index start count mark at.line row.text by.size row.nodes
-            replies (subst (IsIn protocol) by.is at.within) by.sizes by.counts says
+            replies (subst (IsInProtocol protocol) by.is at.within) by.sizes by.counts says
             small long
             (same_at (EachNodes (NodesOf protocol inner) replies) (size - length left) (index + 1)
             row.nodes row.text (omega (arith, begins)) refl are) text refl
@@ -332,7 +338,7 @@ module _ (protocol : Protocol) where
 
   pub whole_nodes : (level count size : ℕ) {bytes rest : List ℕ} {old new : List RespNode}
       → size + length rest ≡ length bytes
-      → Writes (ReplyNodes protocol level) (length bytes) 0 bytes rest count old new
+      → WritesNodes (ReplyNodes protocol level) (length bytes) 0 bytes rest count old new
       → HasNodes protocol level bytes (record { count = count; length = size }) old new
   whole_nodes level count size {bytes} {rest} {old} ends it =
       let (reply, are) = it.are_nodes in

@@ -64,10 +64,10 @@ digits_large digits None large e m (are, is) =
     let P : ℕ → Type 0 = λ k. (k < 2 ^ 64) → ⊥ in
     elim (cases_lt m (2 ^ 64)) [ inl small ↦ absurd (subst P is large small) | inr most ↦ most ]
 
-pub bool_as : (P Q P' Q' : Type 0) (b : Bool) → (P → P') → (Q → Q') → MatchBool b P Q
+pub match_bool_map : (P Q P' Q' : Type 0) (b : Bool) → (P → P') → (Q → Q') → MatchBool b P Q
     → MatchBool b P' Q'
-bool_as P Q P' Q' true is not told = is told
-bool_as P Q P' Q' false is not told = not told
+match_bool_map P Q P' Q' true is not told = is told
+match_bool_map P Q P' Q' false is not told = not told
 
 -- ---- digits
 

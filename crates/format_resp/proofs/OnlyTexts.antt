@@ -7,10 +7,10 @@ use Rattle.std.proofs.Common.{ap, arith, refl, subst, sym, ◌∙◌}
 use Rattle.winnow_grammar.specs.InTurn.{Led}
 use Rattle.grammars.specs.Texts.{CountedText, EachText, Text}
 use Rattle.format_resp.proofs.Refusals.{body_sound}
-use Rattle.format_resp.specs.Resp.{Body, BooleanText, Bytes, Content, DataText, ElementsIn, Ended}
-use Rattle.format_resp.specs.Resp.{Items, LineSays, MarkText, Nothing, Number, Replies, Shortest}
-use Rattle.format_resp.specs.Resp.{Shown, SizeIn, Truth, WrittenText, byte_of, line_end, many}
-use Rattle.format_resp.specs.Resp.{shape_of, AfterSize, SizedText}
+use Rattle.format_resp.specs.Resp.{Body, BooleanText, Bytes, Content, DataText, ElementsIn}
+use Rattle.format_resp.specs.Resp.{WithLineEnd, Items, LineContents, MarkText, Nothing, Number}
+use Rattle.format_resp.specs.Resp.{Replies, Shortest, Shown, SizeIn, Truth, WrittenText, byte_of}
+use Rattle.format_resp.specs.Resp.{line_end, element_count, shape_of, AfterSize, SizedText}
 use Rattle.format_resp.specs.declared.marks.AggregateMark.{AggregateMark}
 use Rattle.format_resp.specs.declared.marks.AggregateMark.TheVariants.{Bar, Percent}
 use Rattle.format_resp.specs.declared.marks.LineMark.{LineMark}
@@ -57,28 +57,28 @@ boolean_only : (b : Bool) (xs ys : List ℕ) → BooleanText b xs → BooleanTex
 boolean_only true xs ys a b = a ∙ sym b
 boolean_only false xs ys a b = a ∙ sym b
 
-ended_only : {O : Type 0} (text : Text ℕ O) → IsOnly text → IsOnly (Ended text)
-unfolding Ended
+ended_only : {O : Type 0} (text : Text ℕ O) → IsOnly text → IsOnly (WithLineEnd text)
+unfolding WithLineEnd
 ended_only text only o xs ys (v, a, e) (w, b, f) =
     e ∙ ap (λ l. l ++ line_end) (only o v w a b) ∙ sym f
 
 size_only : (size : Option ℕ) (xs ys : List ℕ) → SizeIn Shortest size xs → SizeIn Shortest size ys
     → xs ≡ ys
-unfolding Ended
+unfolding WithLineEnd
 size_only None xs ys (v, a, e) (w, b, f) = e ∙ ap (λ l. l ++ line_end) (a ∙ sym b) ∙ sym f
 size_only (Some n) xs ys (v, (small, a), e) (w, (less, b), f) =
     e ∙ ap (λ l. l ++ line_end) (a ∙ sym b) ∙ sym f
 
 data_only : (m n : ℕ) (x y : Bor (List ℕ)) (xs ys : List ℕ) → x.now ≡ y.now → DataText m x xs
     → DataText n y ys → (m ≡ n) × (xs ≡ ys)
-unfolding DataText Ended CountedText
+unfolding DataText WithLineEnd CountedText
 data_only m n x y xs ys same (v, (count, a), e) (w, (number, b), f) =
     let one : v ≡ w = sym a ∙ same ∙ b in (
       sym count ∙ ap (λ l. length l) one ∙ number,
       e ∙ ap (λ l. l ++ line_end) one ∙ sym f,
     )
 
-many_only : (mark : AggregateMark) (m n : ℕ) → many mark m ≡ many mark n → m ≡ n
+many_only : (mark : AggregateMark) (m n : ℕ) → element_count mark m ≡ element_count mark n → m ≡ n
 many_only Percent m n e = omega (arith, e)
 many_only Bar m n e = omega (arith, e)
 many_only mark m n e = e
@@ -94,7 +94,7 @@ lines_only m n a b xs ys same s t e =
 -- ---- replies
 
 module _ {A : Type 0} (elements : Text ℕ (List (Replies A))) (only : IsOnly elements) where
-  line_only : (mark : LineMark) → IsOnly (LineSays {A = A} Shortest mark)
+  line_only : (mark : LineMark) → IsOnly (LineContents {A = A} Shortest mark)
   unfolding Shown
   line_only Colon reply xs ys (m, e, (small, a)) (n, f, (less, b)) =
       a ∙ ap (λ k. signed_decimal k) (same_in number_in reply e f) ∙ sym b
@@ -140,7 +140,7 @@ module _ {A : Type 0} (elements : Text ℕ (List (Replies A))) (only : IsOnly el
   body_only : (mark : Mark) → IsOnly (Body Shortest elements mark)
   unfolding Led
   body_only (Line mark) reply xs ys here there =
-      ended_only (LineSays Shortest mark) (line_only mark) reply xs ys here there
+      ended_only (LineContents Shortest mark) (line_only mark) reply xs ys here there
   body_only mark reply xs ys here there =
       let (m, a, x, s, after, e) = here in
       let (n, b, y, t, also, f) = there in

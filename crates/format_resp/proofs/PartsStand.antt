@@ -7,9 +7,10 @@ use Rattle.winnow_grammar.specs.InTurn.{First, Led}
 use Rattle.grammars.specs.Texts.{CountedText}
 use Rattle.format_resp.proofs.LineTexts.{size_plain}
 use Rattle.format_resp.specs.Parts.{HasElements, IsBehindFeed, IsLine, NoFeed, StandsAs, StandsBy}
-use Rattle.format_resp.specs.Resp.{Any, Body, Content, DataText, Elements, ElementsIn, Ended}
-use Rattle.format_resp.specs.Resp.{InLine, LineSays, MarkText, Opened, Replies, ReplyText, Shown}
-use Rattle.format_resp.specs.Resp.{SizeText, byte_of, line_end, shape_of, AfterSize}
+use Rattle.format_resp.specs.Resp.{Any, Body, Content, DataText, Elements, ElementsIn, WithLineEnd}
+use Rattle.format_resp.specs.Resp.{IsLineByte, LineContents, MarkText, UnrolledReply, Replies}
+use Rattle.format_resp.specs.Resp.{ReplyText, Shown, SizeText, byte_of, line_end, shape_of}
+use Rattle.format_resp.specs.Resp.{AfterSize}
 use Rattle.format_resp.specs.declared.marks.AggregateMark.TheVariants.{Star}
 use Rattle.format_resp.specs.declared.marks.DataMark.TheVariants.{Dollar}
 use Rattle.format_resp.specs.declared.marks.LineMark.{LineMark}
@@ -21,11 +22,11 @@ use Rattle.format_resp.specs.declared.reply.Reply.{out-Reply}
 
 -- ---- lines
 
-plain_line : (mark : ℕ) (xs : List ℕ) → (mark ≡ 10 → ⊥) → AllByRecursion InLine xs
+plain_line : (mark : ℕ) (xs : List ℕ) → (mark ≡ 10 → ⊥) → AllByRecursion IsLineByte xs
     → NoFeed (mark ∷ (xs ++ 13 ∷ []))
 plain_line mark xs other all = (other, without xs all)
   where
-    without : (xs : List ℕ) → AllByRecursion InLine xs → NoFeed (xs ++ 13 ∷ [])
+    without : (xs : List ℕ) → AllByRecursion IsLineByte xs → NoFeed (xs ++ 13 ∷ [])
     without [] all = ((λ e. omega (arith, e)), tt)
     without (x ∷ xs) all = (all.0.1, without xs all.1)
 
@@ -41,7 +42,7 @@ ended xs rest e = ap (λ l. l ++ rest) e ∙ append_assoc xs line_end rest
 
 -- the bytes after the line of a size
 behind_size : {mark : ℕ} {input others size : List ℕ} (xs behind rest : List ℕ)
-    → (mark ≡ 10 → ⊥) → AllByRecursion InLine xs → size ≡ xs ++ line_end
+    → (mark ≡ 10 → ⊥) → AllByRecursion IsLineByte xs → size ≡ xs ++ line_end
     → others ≡ size ++ behind → input ≡ mark ∷ (others ++ rest)
     → IsBehindFeed input (behind ++ rest)
 behind_size {mark} {size = size} xs behind rest other plain e f g = (
@@ -80,7 +81,7 @@ module _ {A : Type 0} (protocol : Protocol) (level : ℕ) (input rest : List ℕ
   stands_made reply same = subst (λ s. StandsAs protocol level input s rest) (sym same)
 
   line_stands : (mark : LineMark) (reply : Replies A) (line : List ℕ)
-      → LineSays Any mark reply line
+      → LineContents Any mark reply line
       → ((text : Bor (List ℕ)) → text.now ≡ line → IsLine input text.now rest)
       → StandsAs protocol level input (shape_of reply) rest
   unfolding Shown
@@ -93,7 +94,7 @@ module _ {A : Type 0} (protocol : Protocol) (level : ℕ) (input rest : List ℕ
   after_stands : (mark : Mark) (reply : Replies A) (size : Option ℕ) (vs : List ℕ)
       → AfterSize (Elements protocol level) mark size reply vs → IsBehindFeed input (vs ++ rest)
       → StandsAs protocol level input (shape_of reply) rest
-  unfolding DataText Ended CountedText
+  unfolding DataText WithLineEnd CountedText
   after_stands (Data mark) reply None vs (null, (same, none)) behind = stands_made reply same tt
   after_stands (Data mark) reply (Some k) vs (text, same, (fits, (ds, (many, shows), d))) behind =
       stands_made reply same (bulk_ended ds rest d shows behind)
@@ -108,7 +109,7 @@ module _ {A : Type 0} (protocol : Protocol) (level : ℕ) (input rest : List ℕ
       → Body Any (Elements protocol level) mark reply others
       → input ≡ byte_of mark ∷ (others ++ rest)
       → StandsAs protocol level input (shape_of reply) rest
-  unfolding Led SizeText Ended
+  unfolding Led SizeText WithLineEnd
   body_stands (Line mark) reply others (xs, says, e) f =
       line_stands mark reply xs says (λ text shows. (
         byte_of (Line mark),
@@ -128,7 +129,7 @@ module _ {A : Type 0} (protocol : Protocol) (level : ℕ) (input rest : List ℕ
 
 -- the contents, if the kind of the reply is known
 pub stands_as : {A : Type 0} (protocol : Protocol) (level : ℕ) (input rest : List ℕ)
-    (reply : Replies A) (kind : Opened A) → First (ReplyText protocol level) input reply rest
+    (reply : Replies A) (kind : UnrolledReply A) → First (ReplyText protocol level) input reply rest
     → out-Reply (Bor (List ℕ)) A reply ≡ kind → StandsBy protocol level input kind rest
 stands_as {A} protocol level input rest reply kind is same =
     subst (λ k. StandsBy protocol level input k rest) same

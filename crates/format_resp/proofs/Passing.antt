@@ -11,10 +11,10 @@ use Rattle.std.proofs.lemmas.List.{append-nil, drop_at, take-append-le}
 use Rattle.winnow_grammar.specs.InTurn.{First, Led}
 use Rattle.format_resp.proofs.LineEnds.{unseen_rest}
 use Rattle.format_resp.proofs.Dues.{any_there, data_passed, line_passed, small_head}
-use Rattle.format_resp.specs.Extents.{IsDue, IsNoString, IsOf, IsReply, MatchesAtStart, Passed}
-use Rattle.format_resp.specs.Extents.{ReplyResult, Times, count_after, data_after}
-use Rattle.format_resp.specs.Heads.{HeadText, IsNoLine}
-use Rattle.format_resp.specs.Resp.{DataText, Ended, InLine, MarkText, StringText}
+use Rattle.format_resp.specs.Extents.{IsDue, IsExtentOf, IsNoString, IsReply, MatchesAtStart}
+use Rattle.format_resp.specs.Extents.{Passed, ReplyResult, Times, count_after, data_after}
+use Rattle.format_resp.specs.Heads.{HeadText, IsRejectedFirstLine}
+use Rattle.format_resp.specs.Resp.{DataText, IsLineByte, MarkText, StringText, WithLineEnd}
 use Rattle.format_resp.specs.declared.extent.Bulk.{Bulk}
 use Rattle.format_resp.specs.declared.extent.Extent.{Extent}
 use Rattle.format_resp.specs.declared.extent.Invalid.{Invalid}
@@ -25,7 +25,7 @@ use Rattle.format_resp.specs.declared.reply.Protocol.{Protocol}
 -- ---- parts
 
 -- nothing was searched yet
-pub all_none : (xs : List ℕ) → AllByRecursion InLine (take 0 xs)
+pub all_none : (xs : List ℕ) → AllByRecursion IsLineByte (take 0 xs)
 all_none [] = tt
 all_none (x ∷ xs) = tt
 
@@ -37,7 +37,7 @@ head_some protocol head xs (mark, ys, zs, (within, is), says, e) =
 
 string_some : (bulk : Bulk) (bytes : Bor (List ℕ)) (xs : List ℕ) → StringText bulk bytes xs
     → 0 < length xs
-unfolding DataText Ended
+unfolding DataText WithLineEnd
 string_some bulk bytes xs (fits, (ys, many, e)) =
     omega (arith, ap (λ l. length l) e, length-append ys (13 ∷ 10 ∷ []))
 
@@ -125,7 +125,7 @@ module _ (protocol : Protocol) (e : Extent) (tokens rest : List ℕ)
 
   -- and never will be
   pub line_never : (n : ℕ) (invalid : Invalid) → e.bulk ≡ None → e.replies ≡ suc n
-      → invalid.offset ≡ e.passed → IsNoLine protocol rest invalid.reason
+      → invalid.offset ≡ e.passed → IsRejectedFirstLine protocol rest invalid.reason
       → ReplyResult protocol tokens (Err invalid)
   line_never n invalid none one offset not = (
     never_due (rw (none, one) (λ more. no_line protocol n (rest ++ more) (not.never more))),
@@ -211,11 +211,11 @@ module _ (protocol : Protocol) (e : Extent) (tokens rest : List ℕ)
       more_within (x ∷ xs) w = omega (arith, w, length-append xs more)
 
       more_open : (xs : List ℕ) → e.sought ≤ length (drop 1 xs)
-          → AllByRecursion InLine (take e.sought (drop 1 xs))
-          → AllByRecursion InLine (take e.sought (drop 1 (xs ++ more)))
+          → AllByRecursion IsLineByte (take e.sought (drop 1 xs))
+          → AllByRecursion IsLineByte (take e.sought (drop 1 (xs ++ more)))
       more_open [] w a =
           let zeros : e.sought ≡ 0 = omega (arith, w) in rw zeros (all_none (drop 1 more))
-      more_open (x ∷ xs) w a = subst (AllByRecursion InLine)
+      more_open (x ∷ xs) w a = subst (AllByRecursion IsLineByte)
           (sym (take-append-le e.sought xs more w)) a
 
   pub left_is : (left : List ℕ) → left ≡ take (length tokens - e.passed) (drop e.passed tokens)
@@ -232,7 +232,7 @@ module _ (protocol : Protocol) (e : Extent) (tokens rest : List ℕ)
 -- before the first byte
 pub none_passed : (protocol : Protocol) (e : Extent) (tokens : List ℕ) → e.passed ≡ 0
     → e.sought ≡ 0 → e.bulk ≡ None
-    → e.replies ≡ 1 → IsOf protocol e tokens
+    → e.replies ≡ 1 → IsExtentOf protocol e tokens
 unfolding Times
 none_passed protocol e tokens passed sought none one = (
   tokens,
@@ -259,7 +259,8 @@ pub kept_more : (protocol : Protocol) (r : Result (Option ℕ) Invalid) (e f : E
     (tokens left : List ℕ)
     → left ≡ take (length tokens - e.passed) (drop e.passed tokens)
     → OnOk r (Passed protocol e tokens left → (rest : List ℕ) × Passed protocol f tokens rest)
-    → OnOk r (IsOf protocol e tokens → (more : List ℕ) → IsOf protocol f (tokens ++ more))
+    → OnOk r (IsExtentOf protocol e tokens → (more : List ℕ)
+    → IsExtentOf protocol f (tokens ++ more))
 kept_more protocol (Ok o) e f tokens left is kept = λ (rest, p) more.
     let (after, q) = kept (left_is protocol e tokens rest p left is) in
     (after ++ more, more_passed protocol f tokens after q more)

@@ -7,12 +7,12 @@ use Rattle.std.proofs.Common.{refl, sym, ap, subst, ◌∙◌, arith, length-app
 use Rattle.winnow_grammar.specs.InTurn.{First}
 use Rattle.grammars.specs.Texts.{EachText, Text}
 use Rattle.format_resp.proofs.AlikeReplies.{replies_alike}
-use Rattle.format_resp.proofs.Made.{mark_is, shaped}
-use Rattle.format_resp.proofs.WrittenTexts.{aggregate_text, data_text, list_for, written_text}
+use Rattle.format_resp.proofs.Made.{first_mark_of_shape, shape_of_equal}
+use Rattle.format_resp.proofs.WrittenTexts.{aggregate_text, data_text, list_exists, written_text}
 use Rattle.format_resp.specs.Alike.{AreAlike, AreAlikeBy, HoldAlike, IsCommand}
-use Rattle.format_resp.specs.Resp.{Bytes, Content, ElementsIn, IsIn, Items, Replies, ReplyText}
-use Rattle.format_resp.specs.Resp.{WrittenText, first_mark, line_end, shape_of}
-use Rattle.format_resp.specs.Written.{Adds, bulk_of, bulks_of, command_of, marked}
+use Rattle.format_resp.specs.Resp.{Bytes, Content, ElementsIn, IsInProtocol, Items, Replies}
+use Rattle.format_resp.specs.Resp.{ReplyText, WrittenText, first_mark, line_end, shape_of}
+use Rattle.format_resp.specs.Written.{Appends, bulk_of, bulks_of, command_of, marked}
 use Rattle.format_resp.specs.declared.marks.AggregateMark.TheVariants.{Star}
 use Rattle.format_resp.specs.declared.marks.DataMark.TheVariants.{Dollar}
 use Rattle.format_resp.specs.declared.marks.Mark.{Mark}
@@ -43,7 +43,7 @@ module _ {A : Type 0} (protocol : Protocol) (level : ℕ) where
 
 -- what is put after nothing, with more after it
 pub put_first : {O : Type 0} (text : Text ℕ O) {o : O} {before between after bytes : List ℕ}
-    (more : List ℕ) → before ≡ [] → Adds text o before between → after ≡ between ++ more
+    (more : List ℕ) → before ≡ [] → Appends text o before between → after ≡ between ++ more
     → bytes ≡ after → First text bytes o more
 unfolding First
 put_first text more none added e same = (
@@ -91,11 +91,12 @@ bulks_row A [] small = refl
 bulks_row A (part ∷ parts) small =
     let long = length-append (bulk_of part.now) (bulks_of parts) in
     let bulk : Replies A = made.Bulk part in
-    let is : shape_of bulk ≡ (Data Dollar, Bytes part) = shaped _ refl (rolls-Bulk part) in (
+    let is : shape_of bulk ≡ (Data Dollar, Bytes part) =
+    shape_of_equal _ refl (rolls-Bulk part) in (
       bulk_of part.now,
       bulks_of parts,
       data_text Resp2 0 bulk Dollar part is tt (omega (arith, small, long, longer part.now))
-          (subst (IsIn Resp2) (sym (mark_is _ is)) tt),
+          (subst (IsInProtocol Resp2) (sym (first_mark_of_shape _ is)) tt),
       bulks_row A parts (omega (arith, small, long)),
       refl,
     )
@@ -107,10 +108,11 @@ unfolding ElementsIn
 command_text {A} parts list are small =
     let many : length list.items ≡ length parts = ap (λ l. length l) are ∙ as_many A parts in
     let is : shape_of (made.Array list) ≡ (Aggregate Star, Items list) =
-    shaped _ refl (rolls-Array list) in
+    shape_of_equal _ refl (rolls-Array list) in
     written_text Resp2 1 (made.Array list) (command_of parts)
     (aggregate_text Resp2 1 (made.Array list) Star (length parts) list (bulks_of parts) is many
-    (rw are (bulks_row A parts small)) (subst (IsIn Resp2) (sym (mark_is _ is)) tt))
+    (rw are (bulks_row A parts small))
+    (subst (IsInProtocol Resp2) (sym (first_mark_of_shape _ is)) tt))
 
 -- an array is at the start of the bytes if a command was appended to an empty buffer
 pub command_first : {A : Type 0} (alloc : A) (parts : List (Bor (List ℕ)))
@@ -128,7 +130,7 @@ command_first {A} alloc parts {before} {between} more none put small e same =
       ap (λ l. length l) is,
       length-append (marked 42 (decimal (length parts))) (bulks_of parts),
     ) in
-    let (list, are) = list_for {A = A} alloc (bulk_replies {A = A} parts)
+    let (list, are) = list_exists {A = A} alloc (bulk_replies {A = A} parts)
     (omega (arith, as_many A parts, few_parts parts, long)) in (
       list,
       are,
@@ -173,7 +175,7 @@ module _ {A : Type 0} where
   bulks_back [] (r ∷ rs) never = never
   bulks_back (p ∷ ps) [] never = never
   bulks_back (p ∷ ps) (r ∷ rs) (one, more) =
-      let is = shaped _ refl (rolls-Bulk p) in
+      let is = shape_of_equal _ refl (rolls-Bulk p) in
       let (same, held) = shaped_alike (λ v w. ⊥) (made.Bulk p) r is one in
       (bulk_held (λ v w. ⊥) p (shape_of r) same held, bulks_back ps rs more)
 
@@ -187,7 +189,8 @@ module _ {A : Type 0} where
   command_back parts list read tokens more rest are a b =
       let (alike, left) = one_reply Resp2 1 (made.Array list) read tokens more rest a b in
       let (same, held) =
-      shaped_alike (AreAlike 0) (made.Array list) read (shaped _ refl (rolls-Array list)) alike in
+      shaped_alike (AreAlike 0) (made.Array list) read
+      (shape_of_equal _ refl (rolls-Array list)) alike in
       let (other, is, pairs) = list_held (AreAlike 0) list (shape_of read) same held in
       let P : List (Replies A) → Type 0 = λ l. ArePairwise (AreAlike 0) l other.items in
       ((other, is, bulks_back parts other.items (subst P are pairs)), left)

@@ -7,12 +7,12 @@ use Rattle.std.proofs.Common.{refl, sym, subst, inl, inr, arith}
 use Rattle.std.proofs.lemmas.List.Elements.{All-cons, All-nil}
 use Rattle.winnow_grammar.specs.InTurn.{Led}
 use Rattle.grammars.specs.Texts.{EachText, Text}
-use Rattle.format_resp.proofs.Made.{line_mark, mark_is}
+use Rattle.format_resp.proofs.Made.{first_mark_of_shape, line_mark}
 use Rattle.format_resp.specs.Numbers.{IsBigNumber, IsDouble}
-use Rattle.format_resp.specs.Resp.{Any, Body, Bytes, Content, Elements, ElementsIn, Ended, Fits}
-use Rattle.format_resp.specs.Resp.{Form, IsIn, IsLineOf, IsVerbatim, Items, LineSays, MarkText}
-use Rattle.format_resp.specs.Resp.{Replies, ReplyText, Shown, first_mark, formatted, many, shape_of}
-use Rattle.format_resp.specs.Resp.{AfterSize}
+use Rattle.format_resp.specs.Resp.{Any, Body, Bytes, Content, Elements, ElementsIn, WithLineEnd}
+use Rattle.format_resp.specs.Resp.{FitsFormat, Form, IsInProtocol, IsLineOf, IsVerbatim, Items}
+use Rattle.format_resp.specs.Resp.{LineContents, MarkText, Replies, ReplyText, Shown, first_mark}
+use Rattle.format_resp.specs.Resp.{has_format, element_count, shape_of, AfterSize}
 use Rattle.format_resp.specs.Written.{IsBroken, IsDeeper, IsForeign, IsInvalid, IsOf, IsOrHas}
 use Rattle.format_resp.specs.Written.{IsRefused, IsUnpaired}
 use Rattle.format_resp.specs.declared.marks.AggregateMark.{AggregateMark}
@@ -32,12 +32,13 @@ module _ {A : Type 0} (elements : Text ℕ (List (Replies A))) where
   -- an aggregate has a size, and its elements have encodings
   abbrev pub Built : AggregateMark → Vec (Replies A) A → Type 0
   Built mark list =
-      ((n : ℕ) × (length list.items ≡ many mark n)) × ((xs : List ℕ) × elements list.items xs)
+      ((n : ℕ) × (length list.items ≡ element_count mark n))
+      × ((xs : List ℕ) × elements list.items xs)
 
   -- what holds for each reply that has an encoding
   abbrev pub Sound : Mark × Content A → Type 0
   Sound (Line mark, Bytes x) = IsLineOf mark x.now
-  Sound (Data mark, Bytes x) = Fits (formatted mark) x.now
+  Sound (Data mark, Bytes x) = FitsFormat (has_format mark) x.now
   Sound (Aggregate mark, Items list) = Built mark list
   Sound s = ⊤
 
@@ -50,7 +51,7 @@ module _ {A : Type 0} (elements : Text ℕ (List (Replies A))) where
   unsound reply is not a = not (subst (λ s. Sound s) is a)
 
   line_sound : (form : Form) (mark : LineMark) (reply : Replies A) (line : List ℕ)
-      → LineSays form mark reply line → Sound (shape_of reply)
+      → LineContents form mark reply line → Sound (shape_of reply)
   unfolding Shown
   line_sound form Colon reply line (n, is, a) = sound reply is tt
   line_sound form Underscore reply line (is, a) = sound reply is tt
@@ -63,18 +64,19 @@ module _ {A : Type 0} (elements : Text ℕ (List (Replies A))) where
       → (first_mark reply ≡ mark) × Sound (shape_of reply)
   after_sound (Line mark) None reply tokens (never, (is, a)) = absurd never
   after_sound (Line mark) (Some n) reply tokens never = absurd never
-  after_sound (Data mark) None reply tokens (null, (is, a)) = (mark_is reply is, sound reply is tt)
+  after_sound (Data mark) None reply tokens (null, (is, a)) =
+      (first_mark_of_shape reply is, sound reply is tt)
   after_sound (Data mark) (Some n) reply tokens (bytes, is, (fits, a)) =
-      (mark_is reply is, sound reply is fits)
+      (first_mark_of_shape reply is, sound reply is fits)
   after_sound (Aggregate mark) None reply tokens (null, (is, a)) =
-      (mark_is reply is, sound reply is tt)
+      (first_mark_of_shape reply is, sound reply is tt)
   after_sound (Aggregate mark) (Some n) reply tokens (list, is, (count, a)) =
-      (mark_is reply is, sound reply is ((n, count), (tokens, a)))
+      (first_mark_of_shape reply is, sound reply is ((n, count), (tokens, a)))
 
   pub body_sound : (form : Form) (mark : Mark) (reply : Replies A) (tokens : List ℕ)
       → Body form elements mark reply tokens
       → (first_mark reply ≡ mark) × Sound (shape_of reply)
-  unfolding Ended Led
+  unfolding WithLineEnd Led
   body_sound form (Line mark) reply tokens (line, says, e) =
       (line_mark form mark reply line says, line_sound form mark reply line says)
   body_sound form mark reply tokens body =
@@ -83,11 +85,11 @@ module _ {A : Type 0} (elements : Text ℕ (List (Replies A))) where
   -- a reply that has an encoding is of the version
   pub led_sound : (form : Form) (protocol : Protocol) (reply : Replies A) (tokens : List ℕ)
       → Led (MarkText protocol) (Body form elements) reply tokens
-      → IsIn protocol (first_mark reply) × Sound (shape_of reply)
+      → IsInProtocol protocol (first_mark reply) × Sound (shape_of reply)
   unfolding Led MarkText
   led_sound form protocol reply tokens (mark, xs, ys, (within, m), a, e) =
       let (is, holds) = body_sound form mark reply ys a in
-      (subst (IsIn protocol) (sym is) within, holds)
+      (subst (IsInProtocol protocol) (sym is) within, holds)
 
   broken : (reply : Replies A) → IsBroken reply → Sound (shape_of reply) → ⊥
   broken reply (inl (text, is, not)) = unsound reply is not

@@ -10,16 +10,15 @@ use Rattle.std.proofs.lemmas.Fmt.{decimal_digit, decimal_step}
 use Rattle.std.proofs.lemmas.List.{drop_more, length-append}
 use Rattle.std.proofs.lemmas.Result.{IfErr-weaker}
 use Rattle.grammars.specs.Texts.{EachText, Text}
-use Rattle.format_resp.proofs.Made.{gathered_is}
+use Rattle.format_resp.proofs.Made.{shape_of_gathered}
 use Rattle.format_resp.proofs.OnlyTexts.{IsOnly, written_only}
 use Rattle.format_resp.proofs.Refusals.{Sound, led_sound}
 use Rattle.format_resp.proofs.Writing.{one_more}
 use Rattle.format_resp.proofs.WrittenTexts.{Encodes, aggregate_text}
-use Rattle.format_resp.specs.Resp.{ElementsIn, Replies}
-use Rattle.format_resp.specs.Resp.{Shortest}
-use Rattle.format_resp.specs.Resp.{WrittenText, byte_of, gathered, many}
-use Rattle.format_resp.specs.Written.{Adds, IsFullForEach, IsFullWith, LacksRoom, bulks_of}
-use Rattle.format_resp.specs.Written.{data_of, marked}
+use Rattle.format_resp.specs.Resp.{ElementsIn, Replies, Shortest, WrittenText, byte_of}
+use Rattle.format_resp.specs.Resp.{element_count, gathered}
+use Rattle.format_resp.specs.Written.{Appends, LacksRoom, OutOfMemoryOnlyIfFullForEach}
+use Rattle.format_resp.specs.Written.{OutOfMemoryOnlyWith, bulks_of, data_of, marked}
 use Rattle.format_resp.specs.declared.marks.AggregateMark.{AggregateMark}
 use Rattle.format_resp.specs.declared.marks.Mark.TheVariants.{Aggregate}
 use Rattle.format_resp.specs.declared.reply.Protocol.{Protocol}
@@ -90,12 +89,12 @@ LacksFor text o into = (tokens : List ℕ) → text o tokens → LacksRoom into 
 
 module _ {O B T : Type 0} (text : Text ℕ O) (o : O) (into : Vec ℕ B) (result : Result T WriteError)
   where
-    pub full_err : LacksFor text o into → IfErr result (IsFullForEach text o into)
+    pub full_err : LacksFor text o into → IfErr result (OutOfMemoryOnlyIfFullForEach text o into)
     full_err = if_err text o into result
       where
         if_err : {O B T : Type 0} (text : Text ℕ O) (o : O) (into : Vec ℕ B)
             (result : Result T WriteError) → LacksFor text o into
-            → IfErr result (IsFullForEach text o into)
+            → IfErr result (OutOfMemoryOnlyIfFullForEach text o into)
         if_err text o into (Ok x) full = tt
         if_err text o into (Err e) full = λ is. full
 
@@ -109,7 +108,7 @@ module _ {O B : Type 0} (text : Text ℕ O) (os : List O) (k : ℕ) (o : O) (bel
       subst (λ l. LacksRoom v l) (sym e) (lacks_first v xs ys (full xs a)))
 
   -- of the elements after one that was appended
-  pub row_behind : IsOnly text → (v w : Vec ℕ B) → Adds text o v.items w.items
+  pub row_behind : IsOnly text → (v w : Vec ℕ B) → Appends text o v.items w.items
       → vec_capacity v ≤ vec_capacity w → LacksFor (EachText text) (drop (k + 1) os) w
       → LacksFor (EachText text) (drop k os) v
   unfolding EachText
@@ -132,7 +131,7 @@ text_full protocol level reply into xs text full tokens is =
 module _ {A B T : Type 0} (protocol : Protocol) (level : ℕ) (reply : Replies A) (into : Vec ℕ B)
     (result : Result T WriteError) where
   abbrev IsFull : Type 0
-  IsFull = IfErr result (IsFullForEach (WrittenText protocol level) reply into)
+  IsFull = IfErr result (OutOfMemoryOnlyIfFullForEach (WrittenText protocol level) reply into)
 
   pub text_err : (xs : List ℕ) → Encodes protocol level reply xs → LacksRoom into xs → IsFull
   text_err xs text full = full_err (WrittenText protocol level) reply into result
@@ -140,15 +139,16 @@ module _ {A B T : Type 0} (protocol : Protocol) (level : ℕ) (reply : Replies A
 
   -- bytes that are written if they are valid
   pub valid_full : {P : Type 0} (xs : List ℕ) → (P → Encodes protocol level reply xs)
-      → IfErr result (IsFullWith P into xs) → IsFull
-  valid_full {P} xs text = IfErr-weaker result (IsFullWith P into xs)
-      (IsFullForEach (WrittenText protocol level) reply into)
+      → IfErr result (OutOfMemoryOnlyWith P into xs) → IsFull
+  valid_full {P} xs text = IfErr-weaker result (OutOfMemoryOnlyWith P into xs)
+      (OutOfMemoryOnlyIfFullForEach (WrittenText protocol level) reply into)
       (λ e full is. text_full protocol level reply into xs (text (full is).0) (full is).1)
 
 -- of an aggregate, by those of its elements
 pub aggregate_full : {A B : Type 0} (protocol : Protocol) (mark : AggregateMark) (size below : ℕ)
     {level byte : ℕ} (list : Vec (Replies A) A) (into : Vec ℕ B)
-    → length list.items ≡ many mark size → level ≡ below + 1 → byte ≡ byte_of (Aggregate mark)
+    → length list.items ≡ element_count mark size → level ≡ below + 1
+    → byte ≡ byte_of (Aggregate mark)
     → ((ys : List ℕ) → EachText (WrittenText protocol below) list.items ys
     → LacksRoom into (marked byte (decimal size) ++ ys))
     → LacksFor (WrittenText protocol level) (gathered mark list) into
@@ -156,7 +156,7 @@ unfolding ElementsIn
 aggregate_full {A} protocol mark size below {level} list into count is first full =
     let elements = ElementsIn Shortest protocol {A = A} (suc below) in
     let reply = gathered mark list in
-    let shape = gathered_is mark list refl in
+    let shape = shape_of_gathered mark list refl in
     let same : suc below ≡ level = omega (arith, is) in
     subst (λ l. LacksFor (WrittenText protocol l) reply into) same (λ tokens text.
     let (sizes, (ys, are)) = subst (λ s. Sound elements s) shape

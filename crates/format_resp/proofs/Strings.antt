@@ -9,7 +9,7 @@ use Rattle.winnow_grammar.specs.InTurn.{First}
 use Rattle.grammars.specs.Texts.{CountedText}
 use Rattle.format_resp.proofs.Encodings.{data_determined}
 use Rattle.format_resp.specs.Extents.{IsNoString, IsPartOfData}
-use Rattle.format_resp.specs.Resp.{DataText, Ended, Fits, StringText, line_end}
+use Rattle.format_resp.specs.Resp.{DataText, FitsFormat, StringText, WithLineEnd, line_end}
 use Rattle.format_resp.specs.declared.extent.Bulk.{Bulk}
 
 -- a list of `n` bytes
@@ -55,7 +55,7 @@ module _ (size : ℕ) (tokens : List ℕ) (text : Bor (List ℕ)) (behind : List
 
   pub data_ended : (left : List ℕ) → behind ≡ line_end ++ left
       → First (DataText size) tokens text left
-  unfolding First DataText Ended CountedText
+  unfolding First DataText WithLineEnd CountedText
   data_ended left e = (
     text.now ++ line_end,
     (text.now, (data_many, refl), refl),
@@ -76,7 +76,7 @@ module _ (size : ℕ) (tokens : List ℕ) (text : Bor (List ℕ)) (behind : List
   pub data_refused : ((more left : List ℕ) → behind ++ more ≡ line_end ++ left → ⊥)
       → (more : List ℕ) (bytes : Bor (List ℕ)) (left : List ℕ)
       → First (DataText size) (tokens ++ more) bytes left → ⊥
-  unfolding First DataText Ended CountedText
+  unfolding First DataText WithLineEnd CountedText
   data_refused none more bytes left (front, (xs, (many, shown), e), d) =
       none more left (same_beginnings text.now xs (behind ++ more) (line_end ++ left)
       (data_many ∙ sym many)
@@ -85,7 +85,7 @@ module _ (size : ℕ) (tokens : List ℕ) (text : Bor (List ℕ)) (behind : List
 
 -- data that are those of a string, or not
 module _ (bulk : Bulk) (tokens : List ℕ) where
-  pub string_stands : (text : Bor (List ℕ)) (left : List ℕ) → Fits bulk.verbatim text.now
+  pub string_stands : (text : Bor (List ℕ)) (left : List ℕ) → FitsFormat bulk.verbatim text.now
       → First (DataText bulk.size) tokens text left
       → (bytes : Bor (List ℕ)) × First (StringText bulk) tokens bytes left
   unfolding First
@@ -96,19 +96,19 @@ module _ (bulk : Bulk) (tokens : List ℕ) where
   unfolding First
   string_none none more bytes left (front, (fits, t), e) = none more bytes left (front, t, e)
 
-  pub string_unfit : (text : Bor (List ℕ)) (left : List ℕ) → (Fits bulk.verbatim text.now → ⊥)
+  pub string_unfit : (text : Bor (List ℕ)) (left : List ℕ) → (FitsFormat bulk.verbatim text.now → ⊥)
       → First (DataText bulk.size) tokens text left → IsNoString bulk tokens
   unfolding First
   string_unfit text left unfit (front, t, e) more bytes rest (back, (fits, u), f) =
       let same : text.now ≡ bytes.now =
       (data_determined bulk.size text bytes (tokens ++ more) (left ++ more) rest
       (front, t, ap (λ l. l ++ more) e ∙ append_assoc front left more) (back, u, f)).0 in
-      unfit (subst (Fits bulk.verbatim) (sym same) fits)
+      unfit (subst (FitsFormat bulk.verbatim) (sym same) fits)
 
   -- the rest is shorter
   pub string_less : (text : Bor (List ℕ)) (left : List ℕ)
       → First (DataText bulk.size) tokens text left → length left < length tokens
-  unfolding First DataText Ended
+  unfolding First DataText WithLineEnd
   string_less text left (front, (xs, many, e), d) = omega (
     arith,
     ap (λ l. length l) d,
@@ -120,7 +120,7 @@ module _ (bulk : Bulk) (tokens : List ℕ) where
   -- incomplete data are not complete data
   pub part_none : IsPartOfData bulk.size tokens → (bytes : Bor (List ℕ)) (left : List ℕ)
       → First (StringText bulk) tokens bytes left → ⊥
-  unfolding First DataText Ended CountedText
+  unfolding First DataText WithLineEnd CountedText
   part_none p bytes left (front, (fits, (xs, (many, shown), e)), d) = omega (
     arith,
     p.some,

@@ -11,13 +11,12 @@ use Rattle.std.proofs.lemmas.Fmt.{decimal_digit, decimal_step}
 use Rattle.std.proofs.lemmas.List.{append-nil, drop_all, drop_more}
 use Rattle.std.proofs.lemmas.Result.{IfErr-weaker, err_from_is_err_and, on_ok_weaker}
 use Rattle.grammars.specs.Texts.{EachText, Text}
-use Rattle.format_resp.proofs.Made.{gathered_is, mark_is}
+use Rattle.format_resp.proofs.Made.{first_mark_of_shape, shape_of_gathered}
 use Rattle.format_resp.proofs.WrittenTexts.{Encodes, aggregate_text, written_text}
-use Rattle.format_resp.specs.Resp.{ElementsIn, IsIn, Replies}
-use Rattle.format_resp.specs.Resp.{ReplyText, WrittenText, byte_of, first_mark}
-use Rattle.format_resp.specs.Resp.{gathered, many}
-use Rattle.format_resp.specs.Written.{Adds, IsDeeper, IsForeign, IsOrHas, IsRefused, IsRefusedAmong}
-use Rattle.format_resp.specs.Written.{IsRefusedAs, IsUnpaired, Keeps, marked}
+use Rattle.format_resp.specs.Resp.{ElementsIn, IsInProtocol, Replies, ReplyText, WrittenText}
+use Rattle.format_resp.specs.Resp.{byte_of, element_count, first_mark, gathered}
+use Rattle.format_resp.specs.Written.{Appends, IsDeeper, IsForeign, IsOrHas, IsPrefixOf, IsRefused}
+use Rattle.format_resp.specs.Written.{IsRefusedAmong, IsRefusedAs, IsUnpaired, marked}
 use Rattle.format_resp.specs.declared.marks.AggregateMark.{AggregateMark}
 use Rattle.format_resp.specs.declared.marks.Mark.TheVariants.{Aggregate}
 use Rattle.format_resp.specs.declared.reply.Protocol.{Protocol}
@@ -25,9 +24,10 @@ use Rattle.format_resp.specs.declared.write.WriteError.{WriteError}
 use Rattle.format_resp.specs.declared.write.WriteError.TheVariants.{Foreign, Level, NoParts}
 use Rattle.format_resp.specs.declared.write.WriteError.TheVariants.{OutOfMemory, Pairs}
 
-pub keeps_trans : {before between after : List ℕ} → Keeps before between → Keeps between after
-    → Keeps before after
-keeps_trans {before} first second = record {
+pub prefix_trans : {before between after : List ℕ} → IsPrefixOf before between
+    → IsPrefixOf between after
+    → IsPrefixOf before after
+prefix_trans {before} first second = record {
   more = first.more ++ second.more;
   behind = second.behind ∙ ap (λ l. l ++ second.more) first.behind
       ∙ append_assoc before first.more second.more;
@@ -38,15 +38,15 @@ pub put_two : (before : List ℕ) {between after : List ℕ} (xs ys : List ℕ) 
     → after ≡ between ++ ys → after ≡ before ++ (xs ++ ys)
 put_two before xs ys e f = f ∙ ap (λ l. l ++ ys) e ∙ append_assoc before xs ys
 
-pub if_error : {T E : Type 0} (P : E → Type 0) (result : Result T E) (e : E)
+pub err_satisfies : {T E : Type 0} (P : E → Type 0) (result : Result T E) (e : E)
     → IsErrAnd result (λ x. x ≡ e) → P e → IfErr result P
-if_error {T} {E} P result e is p =
+err_satisfies {T} {E} P result e is p =
     let (x, same, there) = err_from_is_err_and result is in
     subst (λ r. IfErr r P) (sym same) (subst P (sym there) p)
 
 -- what was put is all that is there after
 pub adds : {O : Type 0} {text : Text ℕ O} {o : O} {before after : List ℕ} (tokens : List ℕ)
-    → text o tokens → after ≡ before ++ tokens → Adds text o before after
+    → text o tokens → after ≡ before ++ tokens → Appends text o before after
 adds tokens is e = record { tokens = tokens; is = is; behind = e }
 
 pub one_more : {O : Type 0} (os : List O) (k : ℕ) (o : O) → k < length os
@@ -56,11 +56,11 @@ one_more os k o below is = drop_more os k o below ∙ ap (λ p. p ∷ drop (k + 
 -- one more element
 pub row_more : {O : Type 0} {text : Text ℕ O} (os : List O) (k : ℕ) (o : O)
     {before between after : List ℕ} → k < length os → o ≡ slice_index_or os k o
-    → Adds text o before between → Adds (EachText text) (drop (k + 1) os) between after
-    → Adds (EachText text) (drop k os) before after
+    → Appends text o before between → Appends (EachText text) (drop (k + 1) os) between after
+    → Appends (EachText text) (drop k os) before after
 unfolding EachText
 row_more {O} {text} os k o {before} {between} {after} below is one more =
-    let P : List O → Type 0 = λ l. Adds (EachText text) l before after in
+    let P : List O → Type 0 = λ l. Appends (EachText text) l before after in
     subst P (sym (one_more os k o below is)) (record {
       tokens = one.tokens ++ more.tokens;
       is = (one.tokens, more.tokens, one.is, more.is, refl);
@@ -69,10 +69,10 @@ row_more {O} {text} os k o {before} {between} {after} below is one more =
 
 -- no more
 pub row_end : {O : Type 0} (text : Text ℕ O) (os : List O) (k : ℕ) (bytes : List ℕ)
-    → length os ≤ k → Adds (EachText text) (drop k os) bytes bytes
+    → length os ≤ k → Appends (EachText text) (drop k os) bytes bytes
 unfolding EachText
 row_end {O} text os k bytes most =
-    subst (λ l. Adds (EachText text) l bytes bytes) (sym (drop_all k os most))
+    subst (λ l. Appends (EachText text) l bytes bytes) (sym (drop_all k os most))
     (record { tokens = []; is = refl; behind = sym (append-nil bytes) })
 
 -- an element is among all
@@ -92,49 +92,51 @@ pub digit_alone : (n : ℕ) (before : List ℕ) {after : List ℕ} → n < 10
     → after ≡ before ++ (48 + n) ∷ [] → after ≡ before ++ decimal n
 digit_alone n before small e = e ∙ ap (λ l. before ++ l) (sym (decimal_digit n small))
 
-pub cut_back : {n : ℕ} {before after cut : List ℕ} → Keeps before after → n ≡ length before
+pub cut_back : {n : ℕ} {before after cut : List ℕ} → IsPrefixOf before after → n ≡ length before
     → cut ≡ take n after → cut ≡ before
-cut_back {n} {before} {after} kept many e =
-    e ∙ ap (λ k. take k after) many ∙ ap (λ l. take (length before) l) kept.behind
+cut_back {n} {before} {after} kept element_count e =
+    e ∙ ap (λ k. take k after) element_count ∙ ap (λ l. take (length before) l) kept.behind
     ∙ take-append_seam before kept.more
 
 -- ---- what is put
 
 -- bytes that are written if they are valid
 pub valid_put : {A T P : Type 0} (protocol : Protocol) (level : ℕ) (reply : Replies A)
-    (before after xs : List ℕ) → IsIn protocol (first_mark reply)
+    (before after xs : List ℕ) → IsInProtocol protocol (first_mark reply)
     → (P → Encodes protocol level reply xs) → (result : Result T WriteError)
     → OnOk result (P × (after ≡ before ++ xs))
-    → OnOk result (Adds (WrittenText protocol level) reply before after)
+    → OnOk result (Appends (WrittenText protocol level) reply before after)
 valid_put protocol level reply before after xs within text result =
     on_ok_weaker result (λ (is, e). adds xs (text is within) e)
 
 -- the size of an aggregate, and its elements
 pub aggregate_put : {A : Type 0} (protocol : Protocol) (mark : AggregateMark) (size below : ℕ)
     {level : ℕ} (list : Vec (Replies A) A) {items : List (Replies A)} {byte : ℕ}
-    {before between after : List ℕ} → IsIn protocol (Aggregate mark) → items ≡ list.items
-    → length list.items ≡ many mark size → level ≡ below + 1 → byte ≡ byte_of (Aggregate mark)
+    {before between after : List ℕ} → IsInProtocol protocol (Aggregate mark) → items ≡ list.items
+    → length list.items ≡ element_count mark size → level ≡ below + 1
+    → byte ≡ byte_of (Aggregate mark)
     → between ≡ before ++ marked byte (decimal size)
-    → Adds (EachText (WrittenText protocol below)) items between after
-    → Adds (WrittenText protocol level) (gathered mark list) before after
+    → Appends (EachText (WrittenText protocol below)) items between after
+    → Appends (WrittenText protocol level) (gathered mark list) before after
 unfolding ElementsIn
 aggregate_put {A} protocol mark size below {level} list {before = before} {after = after} within
     same count is first e added =
-    let P : ℕ → Type 0 = λ l. Adds (WrittenText protocol l) (gathered mark list) before after in
+    let P : ℕ → Type 0 = λ l. Appends (WrittenText protocol l) (gathered mark list) before after in
     let Q : List (Replies A) → Type 0 = λ l. EachText (WrittenText protocol below) l added.tokens in
     let f : level ≡ suc below = omega (arith, is) in
     let head = marked (byte_of (Aggregate mark)) (decimal size) in
-    let shape = gathered_is mark list refl in
+    let shape = shape_of_gathered mark list refl in
     subst P (sym f) (adds (head ++ added.tokens)
     (aggregate_text protocol (suc below) (gathered mark list) mark size list added.tokens shape
-    count (subst Q same added.is) (subst (IsIn protocol) (sym (mark_is _ shape)) within))
+    count (subst Q same added.is)
+    (subst (IsInProtocol protocol) (sym (first_mark_of_shape _ shape)) within))
     (put_two before head added.tokens (e ∙ ap (λ b. before ++ marked b (decimal size)) first)
     added.behind))
 
 pub adds_text : {A : Type 0} (protocol : Protocol) (level : ℕ) {reply : Replies A}
     {before after : List ℕ}
-    → Adds (WrittenText protocol level) reply before after
-    → Adds (ReplyText protocol level) reply before after
+    → Appends (WrittenText protocol level) reply before after
+    → Appends (ReplyText protocol level) reply before after
 adds_text protocol level {reply} added = record {
   tokens = added.tokens;
   is = written_text protocol level reply added.tokens added.is;
@@ -155,7 +157,7 @@ module _ {A : Type 0} where
       → IsOrHas such below element → IsOrHas such (suc below) (gathered mark list)
   unfolding IsOrHas
   or_within such below mark list element among is =
-      inr (mark, list, gathered_is mark list refl, element, among, is)
+      inr (mark, list, shape_of_gathered mark list refl, element, among, is)
 
 module _ {A : Type 0} (protocol : Protocol) where
   -- an error with its reason
@@ -181,11 +183,11 @@ module _ {A : Type 0} (protocol : Protocol) where
 
   -- no aggregate has as many replies
   pub refused_count : (level : ℕ) (mark : AggregateMark) (list : Vec (Replies A) A) {count : ℕ}
-      → count ≡ length list.items → ((size : ℕ) → count ≡ many mark size → ⊥)
+      → count ≡ length list.items → ((size : ℕ) → count ≡ element_count mark size → ⊥)
       → IsRefused protocol level (gathered mark list) Pairs
   refused_count level mark list many_are none =
       or_itself IsUnpaired level
-      (mark, list, gathered_is mark list refl, (λ size e. none size (many_are ∙ e)))
+      (mark, list, shape_of_gathered mark list refl, (λ size e. none size (many_are ∙ e)))
 
   -- at level 0 each aggregate is too deep
   pub deep_aggregate : {level : ℕ} (mark : AggregateMark) (list : Vec (Replies A) A) → level ≡ 0
@@ -193,7 +195,7 @@ module _ {A : Type 0} (protocol : Protocol) where
   unfolding IsDeeper
   deep_aggregate mark list is =
       subst (λ l. IsDeeper l (gathered mark list)) (sym is)
-      (mark, list, gathered_is mark list refl)
+      (mark, list, shape_of_gathered mark list refl)
 
   in_element : (below : ℕ) (mark : AggregateMark) (list : Vec (Replies A) A) (e : WriteError)
       → IsRefusedAmong protocol below list.items e
@@ -203,7 +205,7 @@ module _ {A : Type 0} (protocol : Protocol) where
       subst (IsRefused protocol (suc below) (gathered mark list)) (sym memory) tt
   in_element below mark list NoParts (inr (reply, among, is)) = absurd is
   in_element below mark list Level (inr (reply, among, is)) =
-      (mark, list, gathered_is mark list refl, reply, among, is)
+      (mark, list, shape_of_gathered mark list refl, reply, among, is)
   in_element below mark list OutOfMemory (inr (reply, among, is)) = tt
   in_element below mark list e (inr (reply, among, is)) =
       or_within _ below mark list reply among is

@@ -11,12 +11,12 @@ use Rattle.std.proofs.Common.{refl, subst, arith}
 use Rattle.winnow_grammar.specs.InTurn.{Led}
 use Rattle.grammars.specs.Texts.{CountedText, EachText, Text}
 use Rattle.format_resp.proofs.LineTexts.{integer_read, size_read}
-use Rattle.format_resp.proofs.Made.{line_mark, mark_is, shaped}
-use Rattle.format_resp.specs.Resp.{Any, Body, Bytes, DataText, Elements, ElementsIn, Ended, Fits}
-use Rattle.format_resp.specs.Resp.{Form, IntegerText, IsIn, Items, LineSays, MarkText, Nothing}
-use Rattle.format_resp.specs.Resp.{Replies, ReplyText, Shortest, SizeIn, WrittenText, byte_of}
-use Rattle.format_resp.specs.Resp.{first_mark, formatted, line_end, many, shape_of, AfterSize}
-use Rattle.format_resp.specs.Resp.{IsNullable}
+use Rattle.format_resp.proofs.Made.{first_mark_of_shape, line_mark, shape_of_equal}
+use Rattle.format_resp.specs.Resp.{Any, Body, Bytes, DataText, Elements, ElementsIn, WithLineEnd}
+use Rattle.format_resp.specs.Resp.{FitsFormat, Form, IntegerText, IsInProtocol, Items, LineContents}
+use Rattle.format_resp.specs.Resp.{MarkText, Nothing, Replies, ReplyText, Shortest, SizeIn}
+use Rattle.format_resp.specs.Resp.{WrittenText, byte_of, first_mark, has_format, line_end}
+use Rattle.format_resp.specs.Resp.{element_count, shape_of, AfterSize, MayBeNull}
 use Rattle.format_resp.specs.Written.{data_of, marked}
 use Rattle.format_resp.specs.declared.marks.AggregateMark.{AggregateMark}
 use Rattle.format_resp.specs.declared.marks.AggregateMark.TheVariants.{Star}
@@ -44,8 +44,8 @@ module _ (f g : Form) {A : Type 0} (protocol : Protocol)
     (sizes : (size : Option ℕ) (xs : List ℕ) → SizeIn f size xs → SizeIn g size xs)
     (these those : Text ℕ (List (Replies A)))
     (leads : (os : List (Replies A)) (xs : List ℕ) → these os xs → those os xs) where
-  line_as : (mark : LineMark) (reply : Replies A) (xs : List ℕ) → LineSays f mark reply xs
-      → LineSays g mark reply xs
+  line_as : (mark : LineMark) (reply : Replies A) (xs : List ℕ) → LineContents f mark reply xs
+      → LineContents g mark reply xs
   line_as Colon reply xs (n, is, a) = (n, is, integers n xs a)
   line_as Underscore reply xs x = x
   line_as Hash reply xs x = x
@@ -56,12 +56,12 @@ module _ (f g : Form) {A : Type 0} (protocol : Protocol)
   after_as mark None reply xs x = x
   after_as (Line mark) (Some n) reply xs never = never
   after_as (Data mark) (Some n) reply xs x = x
-  after_as (Aggregate mark) (Some n) reply xs (list, is, (many, a)) =
-      (list, is, (many, leads list.items xs a))
+  after_as (Aggregate mark) (Some n) reply xs (list, is, (element_count, a)) =
+      (list, is, (element_count, leads list.items xs a))
 
   body_as : (mark : Mark) (reply : Replies A) (xs : List ℕ) → Body f these mark reply xs
       → Body g those mark reply xs
-  unfolding Led Ended
+  unfolding Led WithLineEnd
   body_as (Line mark) reply xs (line, a, e) = (line, line_as mark reply line a, e)
   body_as mark reply xs body =
       let (size, ys, zs, s, b, e) = body in
@@ -116,9 +116,9 @@ module _ {A : Type 0} (protocol : Protocol) where
       (Elements protocol level) (elements_text level)
 
 -- in the logic there is a list of each few elements
-pub list_for : {T A : Type 0} (alloc : A) (xs : List T) → length xs < 2 ^ 63
+pub list_exists : {T A : Type 0} (alloc : A) (xs : List T) → length xs < 2 ^ 63
     → (list : Vec T A) × (list.items ≡ xs)
-list_for alloc xs few = (
+list_exists alloc xs few = (
   record {
     ptr = null_ptr;
     len = length xs;
@@ -135,7 +135,8 @@ pub few : {T A : Type 0} (list : Vec T A) → length list.items < 2 ^ 63
 few list = omega (arith, list.ok.0, list.ok.1, list.small)
 
 -- an aggregate is of fewer replies than 2 ^ 63, and its size is no more
-small_of : (mark : AggregateMark) (size count : ℕ) → count ≡ many mark size → count < 2 ^ 63
+small_of : (mark : AggregateMark) (size count : ℕ) → count ≡ element_count mark size
+    → count < 2 ^ 63
     → size < 2 ^ 63
 small_of Star size count e small = omega (arith, e, small)
 small_of mark size count e small = omega (arith, e, small)
@@ -145,7 +146,7 @@ small_of mark size count e small = omega (arith, e, small)
 -- if the reply is of the version, this is an encoding of it
 abbrev pub Encodes : {A : Type 0} → Protocol → ℕ → Replies A → List ℕ → Type 0
 Encodes protocol level reply xs =
-    IsIn protocol (first_mark reply) → WrittenText protocol level reply xs
+    IsInProtocol protocol (first_mark reply) → WrittenText protocol level reply xs
 
 module _ {A : Type 0} (protocol : Protocol) (level : ℕ) (reply : Replies A) where
   led_text : (mark : Mark) (tokens : List ℕ) → first_mark reply ≡ mark
@@ -156,30 +157,31 @@ module _ {A : Type 0} (protocol : Protocol) (level : ℕ) (reply : Replies A) wh
     mark,
     byte_of mark ∷ [],
     tokens,
-    (subst (IsIn protocol) is within, refl),
+    (subst (IsInProtocol protocol) is within, refl),
     body,
     refl,
   )
 
-  pub line_text : (mark : LineMark) (line : List ℕ) → LineSays Shortest mark reply line
+  pub line_text : (mark : LineMark) (line : List ℕ) → LineContents Shortest mark reply line
       → Encodes protocol level reply (marked (byte_of (Line mark)) line)
-  unfolding Ended
+  unfolding WithLineEnd
   line_text mark line says = led_text (Line mark) (line ++ line_end)
       (line_mark Shortest mark reply line says) (line, says, refl)
 
   pub integer_text : (n : ℤ) → reply ≡ made.Integer n → FitsSigned w64 n
       → Encodes protocol level reply (marked 58 (signed_decimal n))
   integer_text n is fits =
-      line_text Colon (signed_decimal n) (n, shaped _ is (rolls-Integer n), (fits, refl))
+      line_text Colon (signed_decimal n) (n, shape_of_equal _ is (rolls-Integer n), (fits, refl))
 
   pub data_text : (mark : DataMark) (bytes : Bor (List ℕ))
-      → shape_of reply ≡ (Data mark, Bytes bytes) → Fits (formatted mark) bytes.now
+      → shape_of reply ≡ (Data mark, Bytes bytes) → FitsFormat (has_format mark) bytes.now
       → length bytes.now < 2 ^ 63
       → Encodes protocol level reply (data_of (byte_of (Data mark)) bytes.now)
-  unfolding Led Ended DataText CountedText
+  unfolding Led WithLineEnd DataText CountedText
   data_text mark bytes is fits small =
       let size = decimal (length bytes.now) in
-      led_text (Data mark) ((size ++ line_end) ++ (bytes.now ++ line_end)) (mark_is reply is) (
+      led_text (Data mark) ((size ++ line_end) ++ (bytes.now ++ line_end))
+      (first_mark_of_shape reply is) (
         Some (length bytes.now),
         size ++ line_end,
         bytes.now ++ line_end,
@@ -190,11 +192,12 @@ module _ {A : Type 0} (protocol : Protocol) (level : ℕ) (reply : Replies A) wh
 
   pub aggregate_text : (mark : AggregateMark) (size : ℕ) (list : Vec (Replies A) A)
       (xs : List ℕ) → shape_of reply ≡ (Aggregate mark, Items list)
-      → length list.items ≡ many mark size → ElementsIn Shortest protocol level list.items xs
+      → length list.items ≡ element_count mark size
+      → ElementsIn Shortest protocol level list.items xs
       → Encodes protocol level reply (marked (byte_of (Aggregate mark)) (decimal size) ++ xs)
-  unfolding Led Ended
+  unfolding Led WithLineEnd
   aggregate_text mark size list xs is count are =
-      led_text (Aggregate mark) ((decimal size ++ line_end) ++ xs) (mark_is reply is) (
+      led_text (Aggregate mark) ((decimal size ++ line_end) ++ xs) (first_mark_of_shape reply is) (
         Some size,
         decimal size ++ line_end,
         xs,
@@ -203,9 +206,9 @@ module _ {A : Type 0} (protocol : Protocol) (level : ℕ) (reply : Replies A) wh
         refl,
       )
 
-  pub null_text : (mark : Mark) → IsNullable mark → shape_of reply ≡ (mark, Nothing)
+  pub null_text : (mark : Mark) → MayBeNull mark → shape_of reply ≡ (mark, Nothing)
       → Encodes protocol level reply (marked (byte_of mark) (45 ∷ 49 ∷ []))
-  unfolding Led Ended
+  unfolding Led WithLineEnd
   null_text (Line mark) never is = absurd never
-  null_text mark null is = led_text mark (45 ∷ 49 ∷ line_end) (mark_is reply is)
+  null_text mark null is = led_text mark (45 ∷ 49 ∷ line_end) (first_mark_of_shape reply is)
       (None, 45 ∷ 49 ∷ line_end, [], (45 ∷ 49 ∷ [], refl, refl), (null, (is, refl)), refl)

@@ -6,8 +6,8 @@ use Rattle.std.specs.Prelude.{Result, Ok, Err}
 use Rattle.std.specs.Borrow.{Bor}
 use Rattle.std.specs.List.{AllByRecursion}
 use Rattle.winnow_grammar.specs.InTurn.{First}
-use Rattle.format_resp.specs.Heads.{IsLinePrefix, IsNoLine}
-use Rattle.format_resp.specs.Resp.{DataText, InLine, Replies, ReplyText, StringText, line_end}
+use Rattle.format_resp.specs.Heads.{IsLinePrefix, IsRejectedFirstLine}
+use Rattle.format_resp.specs.Resp.{DataText, IsLineByte, Replies, ReplyText, StringText, line_end}
 use Rattle.format_resp.specs.declared.extent.Bulk.{Bulk}
 use Rattle.format_resp.specs.declared.extent.Extent.{Extent}
 use Rattle.format_resp.specs.declared.extent.Invalid.{Invalid}
@@ -60,11 +60,11 @@ pub record Passed (protocol : Protocol) (extent : Extent) (tokens rest : List �
   pub few : extent.replies ≤ 2 ^ 64 * extent.passed + 1
   -- the first `sought` bytes after the next one have no byte of a line ending
   pub within : extent.sought ≤ length (drop 1 rest)
-  pub plain : AllByRecursion InLine (take extent.sought (drop 1 rest))
+  pub plain : AllByRecursion IsLineByte (take extent.sought (drop 1 rest))
 
 -- The extent is of these bytes, or of some that they begin with.
-abbrev pub IsOf : Protocol → Extent → List ℕ → Type 0
-IsOf protocol extent tokens = (rest : List ℕ) × Passed protocol extent tokens rest
+abbrev pub IsExtentOf : Protocol → Extent → List ℕ → Type 0
+IsExtentOf protocol extent tokens = (rest : List ℕ) × Passed protocol extent tokens rest
 
 -- The bytes are a proper prefix of a string's data of `size` bytes.
 pub record IsPartOfData (size : ℕ) (tokens : List ℕ) : Type 0 where
@@ -82,7 +82,7 @@ IsNoString bulk tokens =
 
 -- The expected part is rejected: a first line, or the data of a string, which is malformed.
 abbrev pub IsRejectedPart : Protocol → Option Bulk → List ℕ → Reason → Type 0
-IsRejectedPart protocol None rest reason = IsNoLine protocol rest reason
+IsRejectedPart protocol None rest reason = IsRejectedFirstLine protocol rest reason
 IsRejectedPart protocol (Some bulk) rest reason = (reason ≡ Malformed) × IsNoString bulk rest
 
 -- The bytes before the offset lead to the part that is rejected there.
@@ -114,10 +114,10 @@ Wants protocol None rest = IsLinePrefix protocol rest
 Wants protocol (Some bulk) rest = IsPartOfData bulk.size rest
 
 -- If the result is `None`, the rest of the bytes is an incomplete line or an incomplete string.
-abbrev pub IsWanting : Protocol → Extent → List ℕ → Option ℕ → Type 0
-IsWanting protocol extent tokens None =
+abbrev pub IsIncompleteIfNone : Protocol → Extent → List ℕ → Option ℕ → Type 0
+IsIncompleteIfNone protocol extent tokens None =
     (rest : List ℕ) × Passed protocol extent tokens rest × Wants protocol extent.bulk rest
-IsWanting protocol extent tokens (Some n) = ⊤
+IsIncompleteIfNone protocol extent tokens (Some n) = ⊤
 
 -- The length that was found, or the offset of the error, is at most `size`.
 abbrev pub StopsWithin : ℕ → Result (Option ℕ) Invalid → Type 0

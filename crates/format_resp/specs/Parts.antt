@@ -2,8 +2,8 @@
 use Rattle.std.specs.Prelude.{◌≡◌, ℕ, List, ◌∷◌, ◌++◌, suc, ⊤}
 use Rattle.std.specs.List.{AllByRecursion}
 use Rattle.grammars.specs.Texts.{EachText}
-use Rattle.format_resp.specs.Resp.{Bytes, Content, Items, Opened, Replies, ReplyText, line_end}
-use Rattle.format_resp.specs.Resp.{shape}
+use Rattle.format_resp.specs.Resp.{Bytes, Content, Items, Replies, ReplyText, UnrolledReply}
+use Rattle.format_resp.specs.Resp.{line_end, shape}
 use Rattle.format_resp.specs.declared.marks.Mark.{Mark}
 use Rattle.format_resp.specs.declared.marks.Mark.TheVariants.{Line}
 use Rattle.format_resp.specs.declared.reply.Protocol.{Protocol}
@@ -35,5 +35,5 @@ StandsAs protocol level input (mark, Items list) rest =
     HasElements protocol level input list.items rest
 StandsAs protocol level input (mark, content) rest = ⊤
 
-abbrev pub StandsBy : {A : Type 0} → Protocol → ℕ → List ℕ → Opened A → List ℕ → Type 0
+abbrev pub StandsBy : {A : Type 0} → Protocol → ℕ → List ℕ → UnrolledReply A → List ℕ → Type 0
 StandsBy protocol level input kind rest = StandsAs protocol level input (shape kind) rest

@@ -31,24 +31,24 @@ abbrev pub line_end : List ℕ
 line_end = 13 ∷ 10 ∷ []
 
 -- a text, and the end of its line
-unfoldable pub Ended : {O : Type 0} → Text ℕ O → Text ℕ O
-Ended text o tokens = (xs : List ℕ) × text o xs × (tokens ≡ xs ++ line_end)
+unfoldable pub WithLineEnd : {O : Type 0} → Text ℕ O → Text ℕ O
+WithLineEnd text o tokens = (xs : List ℕ) × text o xs × (tokens ≡ xs ++ line_end)
 
 -- a byte of a line: no carriage return and no line feed
-abbrev pub InLine : ℕ → Type 0
-InLine b = (b ≡ 13 → ⊥) × (b ≡ 10 → ⊥)
+abbrev pub IsLineByte : ℕ → Type 0
+IsLineByte b = (b ≡ 13 → ⊥) × (b ≡ 10 → ⊥)
 
 -- a line
 unfoldable pub LineText : Text ℕ (Bor (List ℕ))
-LineText = Ended (Members bytes_reading InLine 0)
+LineText = WithLineEnd (Members bytes_reading IsLineByte 0)
 
 -- a size on a line of its own
 unfoldable pub SizeText : Text ℕ (Option ℕ)
-SizeText = Ended SizeLine
+SizeText = WithLineEnd SizeLine
 
 -- `n` bytes, and a line ending
 unfoldable pub DataText : ℕ → Text ℕ (Bor (List ℕ))
-DataText n = Ended (CountedText bytes_reading n)
+DataText n = WithLineEnd (CountedText bytes_reading n)
 
 -- the bytes that replies begin with
 abbrev pub byte_of : Mark → ℕ
@@ -69,16 +69,16 @@ byte_of (Aggregate Greater) = 62
 byte_of (Aggregate Bar) = 124
 
 -- which of them are of a version of the protocol: + - : $ * of both, the others of RESP3
-abbrev pub IsIn : Protocol → Mark → Type 0
-IsIn protocol (Line Plus) = ⊤
-IsIn protocol (Line Minus) = ⊤
-IsIn protocol (Line Colon) = ⊤
-IsIn protocol (Data Dollar) = ⊤
-IsIn protocol (Aggregate Star) = ⊤
-IsIn protocol mark = protocol ≡ Resp3
+abbrev pub IsInProtocol : Protocol → Mark → Type 0
+IsInProtocol protocol (Line Plus) = ⊤
+IsInProtocol protocol (Line Minus) = ⊤
+IsInProtocol protocol (Line Colon) = ⊤
+IsInProtocol protocol (Data Dollar) = ⊤
+IsInProtocol protocol (Aggregate Star) = ⊤
+IsInProtocol protocol mark = protocol ≡ Resp3
 
 unfoldable pub MarkText : Protocol → Text ℕ Mark
-MarkText protocol mark tokens = IsIn protocol mark × (tokens ≡ byte_of mark ∷ [])
+MarkText protocol mark tokens = IsInProtocol protocol mark × (tokens ≡ byte_of mark ∷ [])
 
 -- bytes that are so, for a slice of them
 unfoldable pub Shown : (List ℕ → Type 0) → Text ℕ (Bor (List ℕ))
@@ -95,31 +95,31 @@ BooleanText true tokens = tokens ≡ 116 ∷ []
 BooleanText false tokens = tokens ≡ 102 ∷ []
 
 -- whether the data start with a format: those of a verbatim string
-abbrev pub formatted : DataMark → Bool
-formatted Equals = true
-formatted mark = false
+abbrev pub has_format : DataMark → Bool
+has_format Equals = true
+has_format mark = false
 
 -- bytes of a string: those of a verbatim string have a format
-abbrev pub Fits : Bool → List ℕ → Type 0
-Fits true bytes = IsVerbatim bytes
-Fits false bytes = ⊤
+abbrev pub FitsFormat : Bool → List ℕ → Type 0
+FitsFormat true bytes = IsVerbatim bytes
+FitsFormat false bytes = ⊤
 
 -- the data of a string and a line ending
 abbrev pub StringText : Bulk → Text ℕ (Bor (List ℕ))
-StringText bulk bytes tokens = Fits bulk.verbatim bytes.now × DataText bulk.size bytes tokens
+StringText bulk bytes tokens = FitsFormat bulk.verbatim bytes.now × DataText bulk.size bytes tokens
 
 -- The size of a bulk string or of an array may be that of null.
-abbrev pub IsNullable : Mark → Type 0
-IsNullable (Data Dollar) = ⊤
-IsNullable (Aggregate Star) = ⊤
-IsNullable mark = ⊥
+abbrev pub MayBeNull : Mark → Type 0
+MayBeNull (Data Dollar) = ⊤
+MayBeNull (Aggregate Star) = ⊤
+MayBeNull mark = ⊥
 
 -- how many replies are in an aggregate: keys and values are counted in twos, and after attributes
 -- the reply is that they are of
-abbrev pub many : AggregateMark → ℕ → ℕ
-many Percent n = n * 2
-many Bar n = n * 2 + 1
-many mark n = n
+abbrev pub element_count : AggregateMark → ℕ → ℕ
+element_count Percent n = n * 2
+element_count Bar n = n * 2 + 1
+element_count mark n = n
 
 -- ---- what a reply is
 
@@ -128,8 +128,8 @@ abbrev pub Replies : Type 0 → Type 0
 Replies A = Reply (Bor (List ℕ)) A
 
 -- what one is, with replies in it
-abbrev pub Opened : Type 0 → Type 0
-Opened A = Reply-F (Bor (List ℕ)) A (Replies A)
+abbrev pub UnrolledReply : Type 0 → Type 0
+UnrolledReply A = Reply-F (Bor (List ℕ)) A (Replies A)
 
 -- what one holds, besides its kind
 pub data Content (A : Type 0) : Type 0 where
@@ -141,7 +141,7 @@ pub data Content (A : Type 0) : Type 0 where
 
 module _ {A : Type 0} where
   -- by its kind: what its encodings begin with, and what it holds
-  abbrev pub shape : Opened A → Mark × Content A
+  abbrev pub shape : UnrolledReply A → Mark × Content A
   shape (Reply-F.Simple x) = (Line Plus, Bytes x)
   shape (Reply-F.Error x) = (Line Minus, Bytes x)
   shape (Reply-F.Integer n) = (Line Colon, Number n)
@@ -196,21 +196,21 @@ IntegerText Shortest = ShortInteger
 
 abbrev pub SizeIn : Form → Text ℕ (Option ℕ)
 SizeIn Any = SizeText
-SizeIn Shortest = Ended ShortSize
+SizeIn Shortest = WithLineEnd ShortSize
 
 -- the bytes of a reply that is a line
 abbrev pub IsLineOf : LineMark → List ℕ → Type 0
 IsLineOf Comma = IsDouble
 IsLineOf Parenthesis = IsBigNumber
-IsLineOf mark = AllByRecursion InLine
+IsLineOf mark = AllByRecursion IsLineByte
 
 module _ {A : Type 0} where
   -- the contents of the line of a reply that consists of one line
-  abbrev pub LineSays : Form → LineMark → Text ℕ (Replies A)
-  LineSays form Colon = For (λ n. (Line Colon, Number n)) (IntegerText form)
-  LineSays form Underscore = Empty (Line Underscore)
-  LineSays form Hash = For (λ b. (Line Hash, Truth b)) BooleanText
-  LineSays form mark = For (λ text. (Line mark, Bytes text)) (Shown (IsLineOf mark))
+  abbrev pub LineContents : Form → LineMark → Text ℕ (Replies A)
+  LineContents form Colon = For (λ n. (Line Colon, Number n)) (IntegerText form)
+  LineContents form Underscore = Empty (Line Underscore)
+  LineContents form Hash = For (λ b. (Line Hash, Truth b)) BooleanText
+  LineContents form mark = For (λ text. (Line mark, Bytes text)) (Shown (IsLineOf mark))
 
   -- a list of `n` replies
   abbrev pub ListText : Text ℕ (List (Replies A)) → ℕ → Text ℕ (Vec (Replies A) A)
@@ -220,18 +220,18 @@ module _ {A : Type 0} where
   abbrev pub SizedText : Text ℕ (List (Replies A)) → Mark → ℕ → Text ℕ (Replies A)
   SizedText elements (Line mark) n = λ reply tokens. ⊥
   SizedText elements (Data mark) n = For (λ bytes. (Data mark, Bytes bytes))
-      (StringText (record { size = n; verbatim = formatted mark }))
+      (StringText (record { size = n; verbatim = has_format mark }))
   SizedText elements (Aggregate mark) n =
-      For (λ list. (Aggregate mark, Items list)) (ListText elements (many mark n))
+      For (λ list. (Aggregate mark, Items list)) (ListText elements (element_count mark n))
 
   -- after the line of a size, which may be that of null
   abbrev pub AfterSize : Text ℕ (List (Replies A)) → Mark → Option ℕ → Text ℕ (Replies A)
-  AfterSize elements mark None = λ reply tokens. IsNullable mark × Empty mark reply tokens
+  AfterSize elements mark None = λ reply tokens. MayBeNull mark × Empty mark reply tokens
   AfterSize elements mark (Some n) = SizedText elements mark n
 
   -- after the first byte
   abbrev pub Body : Form → Text ℕ (List (Replies A)) → Mark → Text ℕ (Replies A)
-  Body form elements (Line mark) = Ended (LineSays form mark)
+  Body form elements (Line mark) = WithLineEnd (LineContents form mark)
   Body form elements mark = Led (SizeIn form) (AfterSize elements mark)
 
 module _ (form : Form) (protocol : Protocol) {A : Type 0} where

@@ -3,7 +3,7 @@ use Rattle.std.specs.Prelude.{◌++◌, ◌+◌, ◌-◌, ◌∷◌, ◌≡◌, 
 use Rattle.std.specs.Prelude.{Err, None, Ok, Option, Result, Some}
 use Rattle.std.specs.Borrow.{Bor}
 use Rattle.format_resp.specs.Nodes.{EachNodes, IsNode, NodesAt, NodesOf}
-use Rattle.format_resp.specs.Resp.{Any, LineSays, Replies, ReplyText, shape_of}
+use Rattle.format_resp.specs.Resp.{Any, LineContents, Replies, ReplyText, shape_of}
 use Rattle.format_resp.specs.declared.marks.LineMark.{LineMark}
 use Rattle.format_resp.specs.declared.node.RespNode.{RespNode}
 use Rattle.format_resp.specs.declared.reply.Protocol.{Protocol}
@@ -15,10 +15,10 @@ overlay (suc index) nodes (x ∷ old) = x ∷ overlay index nodes old
 overlay zero [] (x ∷ old) = x ∷ old
 overlay zero (n ∷ nodes) (x ∷ old) = n ∷ overlay zero nodes old
 
--- `Writes P size index bytes rest next old new`: `bytes` is the end of an input of `size` bytes. It
--- starts with a text that has nodes by `P`, followed by `rest`. The nodes are written from the
--- index on, and the index after them is `next`.
-pub record Writes (P : NodesAt) (size index : ℕ) (bytes rest : List ℕ) (next : ℕ)
+-- `WritesNodes P size index bytes rest next old new`: `bytes` is the end of an input of `size`
+-- bytes. It starts with a text that has nodes by `P`, followed by `rest`. The nodes are written
+-- from the index on, and the index after them is `next`.
+pub record WritesNodes (P : NodesAt) (size index : ℕ) (bytes rest : List ℕ) (next : ℕ)
     (old new : List RespNode) : Type 0 where
   pub nodes : List RespNode
   pub text : List ℕ
@@ -43,14 +43,14 @@ RowNodes protocol level n from index nodes text =
 abbrev pub WritesUpTo : {E : Type 0} → NodesAt → ℕ → ℕ → List ℕ
     → Result (Option (Bor (List ℕ))) E → ℕ → (old new : List RespNode) → Type 0
 WritesUpTo P size index bytes (Ok (Some rest)) next old new =
-    Writes P size index bytes rest.now next old new
+    WritesNodes P size index bytes rest.now next old new
 WritesUpTo P size index bytes (Ok None) next old new = ⊤
 WritesUpTo P size index bytes (Err stop) next old new = ⊤
 
 -- The node of a reply that consists of one line, whose contents are at `start`.
 abbrev pub IsLineNode : LineMark → List ℕ → (start index : ℕ) → RespNode → Type 0
 IsLineNode mark line start index node =
-    (reply : Replies ⊤) × LineSays Any mark reply line
+    (reply : Replies ⊤) × LineContents Any mark reply line
     × ((from : ℕ) (text : List ℕ) → start + (length line + 2) ≡ from + length text
     → IsNode (shape_of reply).0 (shape_of reply).1 from index text node)
 

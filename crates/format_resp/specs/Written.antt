@@ -7,8 +7,8 @@ use Rattle.std.specs.List.{AllByRecursion}
 use Rattle.std.specs.declared.vec.Vec.{Vec}
 use Rattle.grammars.specs.Texts.{Text}
 use Rattle.format_resp.specs.Numbers.{IsBigNumber, IsDouble}
-use Rattle.format_resp.specs.Resp.{Bytes, InLine, IsIn, IsVerbatim, Items, Replies, first_mark}
-use Rattle.format_resp.specs.Resp.{line_end, many, shape_of}
+use Rattle.format_resp.specs.Resp.{Bytes, IsInProtocol, IsLineByte, IsVerbatim, Items, Replies}
+use Rattle.format_resp.specs.Resp.{element_count, first_mark, line_end, shape_of}
 use Rattle.format_resp.specs.declared.marks.AggregateMark.{AggregateMark}
 use Rattle.format_resp.specs.declared.marks.DataMark.TheVariants.{Equals}
 use Rattle.format_resp.specs.declared.marks.LineMark.TheVariants.{Comma, Minus, Parenthesis, Plus}
@@ -20,13 +20,13 @@ use Rattle.format_resp.specs.declared.write.WriteError.TheVariants.{BigNumber, D
 use Rattle.format_resp.specs.declared.write.WriteError.TheVariants.{Format, Level, LineBreak}
 use Rattle.format_resp.specs.declared.write.WriteError.TheVariants.{NoParts, OutOfMemory, Pairs}
 
--- `Keeps before after`: `after` is `before`, possibly followed by more.
-pub record Keeps (before after : List ℕ) : Type 0 where
+-- `IsPrefixOf before after`: `after` is `before`, possibly followed by more.
+pub record IsPrefixOf (before after : List ℕ) : Type 0 where
   pub more : List ℕ
   pub behind : after ≡ before ++ more
 
 -- The old bytes are kept, and an encoding of the value is appended.
-pub record Adds {O : Type 0} (text : Text ℕ O) (o : O) (before after : List ℕ) : Type 0 where
+pub record Appends {O : Type 0} (text : Text ℕ O) (o : O) (before after : List ℕ) : Type 0 where
   pub tokens : List ℕ
   pub is : text o tokens
   pub behind : after ≡ before ++ tokens
@@ -83,19 +83,19 @@ module _ {A : Type 0} where
   -- a simple string or an error with a byte of a line ending
   abbrev pub IsBroken : Replies A → Type 0
   IsBroken reply =
-      IsInvalid (Line Plus) (AllByRecursion InLine) reply
-      ⊎ IsInvalid (Line Minus) (AllByRecursion InLine) reply
+      IsInvalid (Line Plus) (AllByRecursion IsLineByte) reply
+      ⊎ IsInvalid (Line Minus) (AllByRecursion IsLineByte) reply
 
   -- an aggregate of as many replies as none of any size has: a map with a key that has no value, or
   -- attributes of no reply
   abbrev pub IsUnpaired : Replies A → Type 0
   IsUnpaired reply =
       (mark : AggregateMark) × (list : Vec (Replies A) A) × IsOf mark list reply
-      × ((size : ℕ) → length list.items ≡ many mark size → ⊥)
+      × ((size : ℕ) → length list.items ≡ element_count mark size → ⊥)
 
   -- a reply of a kind that the version of the protocol does not have
   abbrev pub IsForeign : Protocol → Replies A → Type 0
-  IsForeign protocol reply = IsIn protocol (first_mark reply) → ⊥
+  IsForeign protocol reply = IsInProtocol protocol (first_mark reply) → ⊥
 
 module _ {A : Type 0} (protocol : Protocol) where
   -- the reason why a reply is not written: an invalid part; aggregates nested deeper than `level`;
@@ -129,14 +129,15 @@ abbrev pub LacksRoom : {B : Type 0} → Vec ℕ B → List ℕ → Type 0
 LacksRoom into more = vec_capacity into < vec_len into + length more
 
 -- out of memory only if there is no room for these bytes
-abbrev pub IsFullFor : {B : Type 0} → Vec ℕ B → List ℕ → WriteError → Type 0
-IsFullFor into more e = e ≡ OutOfMemory → LacksRoom into more
+abbrev pub OutOfMemoryOnlyIfFull : {B : Type 0} → Vec ℕ B → List ℕ → WriteError → Type 0
+OutOfMemoryOnlyIfFull into more e = e ≡ OutOfMemory → LacksRoom into more
 
 -- out of memory only if `P` holds, and there is no room for these bytes
-abbrev pub IsFullWith : {B : Type 0} → Type 0 → Vec ℕ B → List ℕ → WriteError → Type 0
-IsFullWith P into more e = e ≡ OutOfMemory → P × LacksRoom into more
+abbrev pub OutOfMemoryOnlyWith : {B : Type 0} → Type 0 → Vec ℕ B → List ℕ → WriteError → Type 0
+OutOfMemoryOnlyWith P into more e = e ≡ OutOfMemory → P × LacksRoom into more
 
 -- out of memory only if there is no room for an encoding of the value
-abbrev pub IsFullForEach : {O B : Type 0} → Text ℕ O → O → Vec ℕ B → WriteError → Type 0
-IsFullForEach text o into e =
+abbrev pub OutOfMemoryOnlyIfFullForEach : {O B : Type 0} → Text ℕ O → O → Vec ℕ B → WriteError
+    → Type 0
+OutOfMemoryOnlyIfFullForEach text o into e =
     e ≡ OutOfMemory → (tokens : List ℕ) → text o tokens → LacksRoom into tokens

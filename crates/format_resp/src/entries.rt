@@ -4,7 +4,7 @@ ghost use Rattle.std.specs.Prelude.{length, set};
 ghost use Rattle.winnow_grammar.specs.InTurn.{First};
 ghost use Rattle.format_resp.specs.Heads.{HeadText};
 ghost use Rattle.format_resp.specs.Nodes.{bytes_node, kind_by, number_node, truth_number};
-ghost use Rattle.format_resp.specs.Resp.{Any, LineSays, Replies, byte_of, line_end};
+ghost use Rattle.format_resp.specs.Resp.{Any, LineContents, Replies, byte_of, line_end};
 ghost use Rattle.format_resp.specs.Writing.{IsSingleNode, IsLineNode};
 ghost use Rattle.format_resp.specs.declared.heads.Head.TheVariants as heads;
 ghost use Rattle.format_resp.specs.declared.marks.Mark.{Mark};
@@ -121,7 +121,7 @@ fn number_at(boolean: bool) -> i64
 fn line_node(mark: LineMark, line: &[u8], start: usize, index: usize) -> RespNode
     requires start { start + length line.now < 2 ^ 64 }
     requires index { index + 1 < 2 ^ 64 }
-    ensures { (reply : Replies ⊤) → LineSays Any mark reply line.now
+    ensures { (reply : Replies ⊤) → LineContents Any mark reply line.now
         → IsLineNode mark line.now start index result }
 {
     let next = index + 1;

@@ -3,11 +3,11 @@
 //! No byte is searched twice for a line ending, for any number of chunks, and those of a string are
 //! not examined. So the time to find a reply is linear in its bytes. One call of
 //! [`read_reply`](crate::read::read_reply) then reads it.
-ghost use Rattle.format_resp.specs.Extents.{IsDataEnd, IsLessPart, IsOf, IsPart};
-ghost use Rattle.format_resp.specs.Extents.{IsReply, IsStringEnd, IsWanting, IsWithin};
+ghost use Rattle.format_resp.specs.Extents.{IsDataEnd, IsLessPart, IsExtentOf, IsPart, IsReply};
+ghost use Rattle.format_resp.specs.Extents.{IsStringEnd, IsIncompleteIfNone, IsWithin};
 ghost use Rattle.format_resp.specs.Extents.{MatchesAtStart, Passed, ReplyResult, count_after};
 ghost use Rattle.format_resp.specs.Extents.{StopsWithin, data_after};
-ghost use Rattle.format_resp.specs.Resp.{Fits, Replies, ReplyText};
+ghost use Rattle.format_resp.specs.Resp.{FitsFormat, Replies, ReplyText};
 ghost use Rattle.format_resp.specs.declared.reply.Protocol.{Protocol};
 ghost use Rattle.std.specs.Prelude.{◌≡◌, ◌≤◌, ◌+◌, ◌^◌, ◌++◌, ℕ, List, None, Some, length};
 ghost use Rattle.std.specs.Prelude.{IfOk, IfSome, MatchBool, OnOk, suc};
@@ -120,7 +120,7 @@ fn split_data<'i>(size: usize, bytes: &'i [u8]) -> Result<Option<(&'i [u8], &'i 
 /// Whether the bytes are those of such a string.
 #[inline(always)]
 fn fits(verbatim: bool, bytes: &[u8]) -> bool
-    ensures { MatchBool result (Fits verbatim bytes.now) (Fits verbatim bytes.now → ⊥) }
+    ensures { MatchBool result (FitsFormat verbatim bytes.now) (FitsFormat verbatim bytes.now → ⊥) }
 {
     if verbatim { is_verbatim(bytes) } else { true }
 }
@@ -163,7 +163,7 @@ fn due_behind(head: Head, others: u128) -> Option<(Option<Bulk>, u128)>
 impl Extent {
     /// Nothing is passed.
     pub fn new() -> Extent
-        ensures { (protocol : Protocol) (tokens : List ℕ) → IsOf protocol result tokens }
+        ensures { (protocol : Protocol) (tokens : List ℕ) → IsExtentOf protocol result tokens }
     {
         Extent {
             passed: 0,
@@ -265,7 +265,7 @@ impl Extent {
         ensures kept { OnOk result (Passed protocol self.old bytes.now from.now
             → (rest : List ℕ) × Passed protocol self.new bytes.now rest) }
         ensures wants { Passed protocol self.old bytes.now from.now
-            → IfOk result (IsWanting protocol self.new bytes.now) }
+            → IfOk result (IsIncompleteIfNone protocol self.new bytes.now) }
         ensures within { StopsWithin (length bytes.now) result }
     {
         let mut rest = from;
@@ -315,11 +315,12 @@ impl Extent {
     /// ```
     #[inline(always)]
     pub fn advance(&mut self, protocol: Protocol, bytes: &[u8]) -> Result<Option<usize>, Invalid>
-        ensures told { IsOf protocol self.old bytes.now → ReplyResult protocol bytes.now result }
-        ensures kept { OnOk result (IsOf protocol self.old bytes.now
-            → (more : List ℕ) → IsOf protocol self.new (bytes.now ++ more)) }
-        ensures wants { IsOf protocol self.old bytes.now
-            → IfOk result (IsWanting protocol self.new bytes.now) }
+        ensures told { IsExtentOf protocol self.old bytes.now
+            → ReplyResult protocol bytes.now result }
+        ensures kept { OnOk result (IsExtentOf protocol self.old bytes.now
+            → (more : List ℕ) → IsExtentOf protocol self.new (bytes.now ++ more)) }
+        ensures wants { IsExtentOf protocol self.old bytes.now
+            → IfOk result (IsIncompleteIfNone protocol self.new bytes.now) }
         ensures within { StopsWithin (length bytes.now) result }
     {
         match bytes.get(self.passed..) {

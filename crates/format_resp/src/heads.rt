@@ -1,8 +1,8 @@
 //! The first lines of replies, and their information about the bytes after them.
-ghost use Rattle.format_resp.specs.Heads.{HasNumber, IsLessStart, IsReason, IsRejectedLine};
-ghost use Rattle.format_resp.specs.Heads.{IsStart, Says};
+ghost use Rattle.format_resp.specs.Heads.{HasNumber, HeadLineText, IsLessStart, IsReason};
+ghost use Rattle.format_resp.specs.Heads.{IsRejectedLine, IsStart};
 ghost use Rattle.format_resp.specs.Numbers.{AreDigits};
-ghost use Rattle.format_resp.specs.Resp.{InLine, formatted};
+ghost use Rattle.format_resp.specs.Resp.{IsLineByte, has_format};
 ghost use Rattle.format_resp.specs.declared.heads.Head.TheVariants.{Ends};
 ghost use Rattle.format_resp.specs.declared.marks.Mark.TheVariants as marks;
 ghost use Rattle.std.specs.List.{AllByRecursion};
@@ -68,7 +68,7 @@ fn size_reason(line: &[u8]) -> Reason
 /// Whether the data after a mark start with a format.
 #[inline(always)]
 fn is_formatted(mark: DataMark) -> bool
-    ensures { result ≡ formatted mark }
+    ensures { result ≡ has_format mark }
 {
     match mark {
         DataMark::Dollar => false,
@@ -88,8 +88,8 @@ fn ends_with(_reply: Reply<&[u8], Global>) -> Head
 /// Returns the meaning of a line after the mark of a reply that consists of one line.
 #[inline(always)]
 fn line_head(mark: LineMark, line: &[u8]) -> Result<Head, Reason>
-    ensures head { IfOk result (λ head. AllByRecursion InLine line.now
-        → Says (marks.Line mark) head line.now) }
+    ensures head { IfOk result (λ head. AllByRecursion IsLineByte line.now
+        → HeadLineText (marks.Line mark) head line.now) }
     ensures rejected { IfErr result (IsRejectedLine (marks.Line mark) line.now) }
 {
     match line_reply::<Global>(mark, line) {
@@ -101,7 +101,7 @@ fn line_head(mark: LineMark, line: &[u8]) -> Result<Head, Reason>
 /// Returns the meaning of a line after the mark of a reply with a number of bytes.
 #[inline(always)]
 fn data_head(mark: DataMark, line: &[u8]) -> Result<Head, Reason>
-    ensures head { IfOk result (λ head. Says (marks.Data mark) head line.now) }
+    ensures head { IfOk result (λ head. HeadLineText (marks.Data mark) head line.now) }
     ensures rejected { IfErr result (IsRejectedLine (marks.Data mark) line.now) }
 {
     match size_line(line) {
@@ -120,7 +120,7 @@ fn data_head(mark: DataMark, line: &[u8]) -> Result<Head, Reason>
 /// Returns the meaning of a line after the mark of an aggregate.
 #[inline(always)]
 fn aggregate_head(mark: AggregateMark, line: &[u8]) -> Result<Head, Reason>
-    ensures head { IfOk result (λ head. Says (marks.Aggregate mark) head line.now) }
+    ensures head { IfOk result (λ head. HeadLineText (marks.Aggregate mark) head line.now) }
     ensures rejected { IfErr result (IsRejectedLine (marks.Aggregate mark) line.now) }
 {
     match size_line(line) {
@@ -145,8 +145,8 @@ fn aggregate_head(mark: AggregateMark, line: &[u8]) -> Result<Head, Reason>
 /// Returns the meaning of a line after a mark.
 #[inline(always)]
 fn head_of(mark: Mark, line: &[u8]) -> Result<Head, Reason>
-    ensures head { IfOk result (λ head. AllByRecursion InLine line.now
-        → Says mark head line.now) }
+    ensures head { IfOk result (λ head. AllByRecursion IsLineByte line.now
+        → HeadLineText mark head line.now) }
     ensures rejected { IfErr result (IsRejectedLine mark line.now) }
 {
     match mark {
@@ -160,7 +160,7 @@ fn head_of(mark: Mark, line: &[u8]) -> Result<Head, Reason>
 /// the mark must have no part of a line ending.
 #[inline(always)]
 pub(crate) fn start_of<'i>(protocol: Protocol, bytes: &'i [u8], sought: usize) -> Start<'i>
-    ensures told { AllByRecursion InLine (take sought (drop 1 bytes.now))
+    ensures told { AllByRecursion IsLineByte (take sought (drop 1 bytes.now))
         → IsStart protocol bytes.now result }
     ensures less { IsLessStart (length bytes.now) result }
 {

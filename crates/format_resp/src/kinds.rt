@@ -2,8 +2,9 @@
 
 ghost use Rattle.std.specs.List.{AllByRecursion};
 ghost use Rattle.std.specs.Prelude.{◌≡◌, ◌≤◌, ◌+◌, ◌*◌, ◌^◌, ℕ, Bool, IfSome, None};
-ghost use Rattle.format_resp.specs.Resp.{Any, BooleanText, Bytes, Fits, InLine, LineSays};
-ghost use Rattle.format_resp.specs.Resp.{Replies, formatted, gathered, many, shape_of};
+ghost use Rattle.format_resp.specs.Resp.{Any, BooleanText, Bytes, FitsFormat, IsLineByte};
+ghost use Rattle.format_resp.specs.Resp.{LineContents, Replies, element_count, gathered};
+ghost use Rattle.format_resp.specs.Resp.{has_format, shape_of};
 ghost use Rattle.format_resp.specs.declared.marks.Mark.TheVariants.{Data};
 
 use crate::marks::{AggregateMark, DataMark, LineMark};
@@ -30,9 +31,9 @@ pub(crate) fn line_reply<'i, A: Allocator>(
     mark: LineMark,
     line: &'i [u8],
 ) -> Option<Reply<&'i [u8], A>>
-    ensures some { IfSome result (λ reply. AllByRecursion InLine line.now
-        → LineSays Any mark reply line.now) }
-    ensures none { result ≡ None → (reply : Replies A) → LineSays Any mark reply line.now → ⊥ }
+    ensures some { IfSome result (λ reply. AllByRecursion IsLineByte line.now
+        → LineContents Any mark reply line.now) }
+    ensures none { result ≡ None → (reply : Replies A) → LineContents Any mark reply line.now → ⊥ }
 {
     match mark {
         LineMark::Plus => Some(Reply::Simple(line)),
@@ -76,8 +77,8 @@ pub(crate) fn data_reply<'i, A: Allocator>(
     bytes: &'i [u8],
 ) -> Option<Reply<&'i [u8], A>>
     ensures some { IfSome result (λ reply. (shape_of reply ≡ (Data mark, Bytes bytes.entry))
-        × Fits (formatted mark) bytes.now) }
-    ensures none { result ≡ None → Fits (formatted mark) bytes.now → ⊥ }
+        × FitsFormat (has_format mark) bytes.now) }
+    ensures none { result ≡ None → FitsFormat (has_format mark) bytes.now → ⊥ }
 {
     match mark {
         DataMark::Dollar => Some(Reply::Bulk(bytes)),
@@ -96,8 +97,8 @@ pub(crate) fn data_reply<'i, A: Allocator>(
 /// values are counted in twos, and after attributes the reply is that they are of.
 #[inline(always)]
 pub(crate) fn count_of(mark: AggregateMark, size: usize) -> Option<usize>
-    ensures some { IfSome result (λ count. count ≡ many mark size) }
-    ensures none { result ≡ None → 2 ^ 64 ≤ many mark size }
+    ensures some { IfSome result (λ count. count ≡ element_count mark size) }
+    ensures none { result ≡ None → 2 ^ 64 ≤ element_count mark size }
 {
     match mark {
         AggregateMark::Star => Some(size),
@@ -134,8 +135,8 @@ fn half_without_one(count: usize) -> Option<usize>
 
 /// Returns the size of an aggregate of `count` replies, if there is one.
 pub(crate) fn size_of(mark: AggregateMark, count: usize) -> Option<usize>
-    ensures some { IfSome result (λ size. count ≡ many mark size) }
-    ensures none { result ≡ None → (size : ℕ) → count ≡ many mark size → ⊥ }
+    ensures some { IfSome result (λ size. count ≡ element_count mark size) }
+    ensures none { result ≡ None → (size : ℕ) → count ≡ element_count mark size → ⊥ }
 {
     match mark {
         AggregateMark::Star => Some(count),

@@ -3,7 +3,7 @@ ghost use Rattle.std.specs.List.{AllByRecursion};
 ghost use Rattle.std.specs.Prelude.{length, take};
 ghost use Rattle.format_resp.specs.Extents.{IsLessPart, IsLineEnd};
 ghost use Rattle.format_resp.specs.Lines.{IsLessLine, IsLine};
-ghost use Rattle.format_resp.specs.Resp.{InLine};
+ghost use Rattle.format_resp.specs.Resp.{IsLineByte};
 
 use crate::extent::Reason;
 use memchr::memchr2;
@@ -48,7 +48,7 @@ pub(crate) fn skip_line_ending<'i>(bytes: &'i [u8]) -> Result<Option<&'i [u8]>, 
 /// line ending.
 #[inline(always)]
 pub(crate) fn line_of<'i>(bytes: &'i [u8], sought: usize) -> Line<'i>
-    ensures told { AllByRecursion InLine (take sought bytes.now) → IsLine bytes.now result }
+    ensures told { AllByRecursion IsLineByte (take sought bytes.now) → IsLine bytes.now result }
     ensures less { IsLessLine (length bytes.now) result }
 {
     match bytes.get(sought..) {

@@ -4,7 +4,7 @@ ghost use Rattle.std.specs.Prelude.{◌≡◌, None, IfSome, MatchBool};
 ghost use Rattle.streams.specs.Bytes.{bytes_follow, bytes_reading};
 ghost use Rattle.winnow_grammar.specs.InTurn.{First};
 ghost use Rattle.format_resp.specs.MustAsk.{ReadsOrMustAsk};
-ghost use Rattle.format_resp.specs.Resp.{IsIn, MarkText, byte_of};
+ghost use Rattle.format_resp.specs.Resp.{IsInProtocol, MarkText, byte_of};
 ghost use Rattle.format_resp.specs.declared.marks.Mark.{Mark};
 ghost use Rattle.format_resp.specs.declared.marks.Mark.TheVariants.{Aggregate};
 ghost use Rattle.format_resp.specs.declared.reply.Protocol.TheVariants.{Resp2};
@@ -122,7 +122,7 @@ pub(crate) fn any_mark(byte: u8) -> Option<Mark>
 /// Whether replies of RESP2 begin so.
 #[inline(always)]
 fn is_in_resp2(mark: Mark) -> bool
-    ensures { MatchBool result (IsIn Resp2 mark) (IsIn Resp2 mark → ⊥) }
+    ensures { MatchBool result (IsInProtocol Resp2 mark) (IsInProtocol Resp2 mark → ⊥) }
 {
     match mark {
         Mark::Line(mark) => match mark {
@@ -152,7 +152,7 @@ fn is_in_resp2(mark: Mark) -> bool
 /// Whether replies of that version of the protocol begin so.
 #[inline(always)]
 pub(crate) fn is_in(protocol: Protocol, mark: Mark) -> bool
-    ensures { MatchBool result (IsIn protocol mark) (IsIn protocol mark → ⊥) }
+    ensures { MatchBool result (IsInProtocol protocol mark) (IsInProtocol protocol mark → ⊥) }
 {
     match protocol {
         Protocol::Resp2 => is_in_resp2(mark),
@@ -163,8 +163,9 @@ pub(crate) fn is_in(protocol: Protocol, mark: Mark) -> bool
 /// Returns the mark of a byte, if it starts a reply of this version of the protocol.
 #[inline(always)]
 pub(crate) fn mark_of(protocol: Protocol, byte: u8) -> Option<Mark>
-    ensures some { IfSome result (λ mark. IsIn protocol mark × (byte ≡ byte_of mark)) }
-    ensures none { result ≡ None → (mark : Mark) → IsIn protocol mark → byte ≡ byte_of mark → ⊥ }
+    ensures some { IfSome result (λ mark. IsInProtocol protocol mark × (byte ≡ byte_of mark)) }
+    ensures none { result ≡ None → (mark : Mark) → IsInProtocol protocol mark
+        → byte ≡ byte_of mark → ⊥ }
 {
     let mark = any_mark(byte)?;
     if is_in(protocol, mark) {

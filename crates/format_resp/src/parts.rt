@@ -1,6 +1,6 @@
 //! The parts of replies as bytes.
-ghost use Rattle.format_resp.specs.Resp.{InLine};
-ghost use Rattle.format_resp.specs.Written.{Keeps, LacksRoom, data_of, marked};
+ghost use Rattle.format_resp.specs.Resp.{IsLineByte};
+ghost use Rattle.format_resp.specs.Written.{IsPrefixOf, LacksRoom, data_of, marked};
 ghost use Rattle.std.specs.Fmt.{decimal, signed_decimal};
 ghost use Rattle.std.specs.List.{AllByRecursion};
 ghost use Rattle.std.specs.Prelude.{◌≡◌, ◌≤◌, ◌++◌, ◌∷◌, [], MatchBool, OnErr, OnOk};
@@ -41,7 +41,7 @@ pub fn write_line<B: Allocator>(
     into: &mut Vec<u8, B>,
 ) -> Result<(), AllocError>
     ensures written { OnOk result (into.new.items ≡ into.old.items ++ marked mark line.now) }
-    ensures kept { Keeps into.old.items into.new.items }
+    ensures kept { IsPrefixOf into.old.items into.new.items }
     ensures capacity { vec_capacity into.old ≤ vec_capacity into.new }
     ensures full { OnErr result (LacksRoom into.old (marked mark line.now)) }
 {
@@ -54,7 +54,7 @@ pub fn write_line<B: Allocator>(
 /// Appends the digits of a number. It calls itself once for each digit but the last.
 fn write_digits<B: Allocator>(number: u64, into: &mut Vec<u8, B>) -> Result<(), AllocError>
     ensures written { OnOk result (into.new.items ≡ into.old.items ++ decimal number) }
-    ensures kept { Keeps into.old.items into.new.items }
+    ensures kept { IsPrefixOf into.old.items into.new.items }
     ensures capacity { vec_capacity into.old ≤ vec_capacity into.new }
     ensures full { OnErr result (LacksRoom into.old (decimal number)) }
 {
@@ -70,7 +70,7 @@ fn write_digits<B: Allocator>(number: u64, into: &mut Vec<u8, B>) -> Result<(), 
 /// Appends a number, with a minus sign if it is negative.
 fn write_signed<B: Allocator>(number: i64, into: &mut Vec<u8, B>) -> Result<(), AllocError>
     ensures written { OnOk result (into.new.items ≡ into.old.items ++ signed_decimal number) }
-    ensures kept { Keeps into.old.items into.new.items }
+    ensures kept { IsPrefixOf into.old.items into.new.items }
     ensures capacity { vec_capacity into.old ≤ vec_capacity into.new }
     ensures full { OnErr result (LacksRoom into.old (signed_decimal number)) }
 {
@@ -96,7 +96,7 @@ pub fn write_size<B: Allocator>(
     into: &mut Vec<u8, B>,
 ) -> Result<(), AllocError>
     ensures written { OnOk result (into.new.items ≡ into.old.items ++ marked mark (decimal size)) }
-    ensures kept { Keeps into.old.items into.new.items }
+    ensures kept { IsPrefixOf into.old.items into.new.items }
     ensures capacity { vec_capacity into.old ≤ vec_capacity into.new }
     ensures full { OnErr result (LacksRoom into.old (marked mark (decimal size))) }
 {
@@ -118,7 +118,7 @@ pub fn write_size<B: Allocator>(
 pub fn write_integer<B: Allocator>(number: i64, into: &mut Vec<u8, B>) -> Result<(), AllocError>
     ensures written { OnOk result
         (into.new.items ≡ into.old.items ++ marked 58 (signed_decimal number)) }
-    ensures kept { Keeps into.old.items into.new.items }
+    ensures kept { IsPrefixOf into.old.items into.new.items }
     ensures capacity { vec_capacity into.old ≤ vec_capacity into.new }
     ensures full { OnErr result (LacksRoom into.old (marked 58 (signed_decimal number))) }
 {
@@ -144,7 +144,7 @@ pub fn write_data<B: Allocator>(
     into: &mut Vec<u8, B>,
 ) -> Result<(), AllocError>
     ensures written { OnOk result (into.new.items ≡ into.old.items ++ data_of mark bytes.now) }
-    ensures kept { Keeps into.old.items into.new.items }
+    ensures kept { IsPrefixOf into.old.items into.new.items }
     ensures capacity { vec_capacity into.old ≤ vec_capacity into.new }
     ensures full { OnErr result (LacksRoom into.old (data_of mark bytes.now)) }
 {
@@ -162,8 +162,8 @@ pub fn write_data<B: Allocator>(
 /// assert!(rt; is_line(b"ERR unknown command") && !is_line(b"ERR\nno"));
 /// ```
 pub fn is_line(bytes: &[u8]) -> bool
-    ensures { MatchBool result (AllByRecursion InLine bytes.now)
-        (AllByRecursion InLine bytes.now → ⊥) }
+    ensures { MatchBool result (AllByRecursion IsLineByte bytes.now)
+        (AllByRecursion IsLineByte bytes.now → ⊥) }
 {
     memchr2(b'\r', b'\n', bytes).is_none()
 }

@@ -3,8 +3,8 @@
 ghost use Rattle.streams.specs.Bytes.{bytes_follow, bytes_reading};
 ghost use Rattle.winnow_grammar.specs.InTurn.{First, Led};
 ghost use Rattle.format_resp.specs.MustAsk.{ReadsOrMustAsk};
-ghost use Rattle.format_resp.specs.Resp.{AfterSize, Any, Elements, Ended, LineSays, ReplyText};
-ghost use Rattle.format_resp.specs.Resp.{SizeText};
+ghost use Rattle.format_resp.specs.Resp.{AfterSize, Any, Elements, LineContents, ReplyText};
+ghost use Rattle.format_resp.specs.Resp.{SizeText, WithLineEnd};
 ghost use Rattle.format_resp.specs.declared.marks.Mark.TheVariants as marks;
 ghost use Rattle.format_resp.specs.declared.reply.Protocol.{Protocol};
 ghost use Rattle.std.specs.Prelude.{ℕ};
@@ -33,7 +33,7 @@ fn read_on_line<'i, A: Allocator>(
     input: &mut Partial<&'i [u8]>,
 ) -> Result<Reply<&'i [u8], A>, ErrMode<EmptyError>>
     ensures { ReadsOrMustAsk bytes_reading bytes_follow ⟦<Error as HasKind>⟧.kind
-        (First (Ended (LineSays Any mark))) (⟦<Bytes as Stream>⟧.view input.old) result
+        (First (WithLineEnd (LineContents Any mark))) (⟦<Bytes as Stream>⟧.view input.old) result
         (⟦<Bytes as Stream>⟧.view input.new) }
 {
     let line = read_line(input)?;

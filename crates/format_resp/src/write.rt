@@ -4,12 +4,12 @@ ghost use Rattle.std.specs.Prelude.{◌≡◌, ◌≤◌, ◌⊎◌, ◌++◌, [
 ghost use Rattle.std.specs.Prelude.{vec_capacity};
 ghost use Rattle.grammars.specs.Texts.{EachText};
 ghost use Rattle.format_resp.specs.Numbers.{IsBigNumber, IsDouble};
-ghost use Rattle.format_resp.specs.Resp.{BooleanText, InLine, IsIn, IsVerbatim, ReplyText};
-ghost use Rattle.format_resp.specs.Resp.{WrittenText, first_mark, gathered};
-ghost use Rattle.format_resp.specs.Written.{Adds, IsForeign, IsFullFor, IsFullForEach};
-ghost use Rattle.format_resp.specs.Written.{IsFullWith, IsRefused, IsRefusedAmong, IsRefusedAs};
-ghost use Rattle.format_resp.specs.Written.{LacksRoom};
-ghost use Rattle.format_resp.specs.Written.{Keeps, bulks_of, command_of, data_of, marked};
+ghost use Rattle.format_resp.specs.Resp.{BooleanText, IsInProtocol, IsLineByte, IsVerbatim};
+ghost use Rattle.format_resp.specs.Resp.{ReplyText, WrittenText, first_mark, gathered};
+ghost use Rattle.format_resp.specs.Written.{Appends, IsForeign, OutOfMemoryOnlyIfFull};
+ghost use Rattle.format_resp.specs.Written.{OutOfMemoryOnlyIfFullForEach, OutOfMemoryOnlyWith};
+ghost use Rattle.format_resp.specs.Written.{IsRefused, IsRefusedAmong, IsRefusedAs, LacksRoom};
+ghost use Rattle.format_resp.specs.Written.{IsPrefixOf, bulks_of, command_of, data_of, marked};
 ghost use Rattle.format_resp.specs.declared.marks.Mark.TheVariants.{Aggregate};
 ghost use Rattle.format_resp.specs.declared.write.WriteError.TheVariants as errors;
 
@@ -64,13 +64,13 @@ impl From<AllocError> for WriteError {
 
 /// Appends a simple string or an error.
 fn write_text<B: Allocator>(mark: u8, text: &[u8], into: &mut Vec<u8, B>) -> Result<(), WriteError>
-    ensures written { OnOk result (AllByRecursion InLine text.now
+    ensures written { OnOk result (AllByRecursion IsLineByte text.now
         × (into.new.items ≡ into.old.items ++ marked mark text.now)) }
     ensures refused { IfErr result (IsRefusedAs errors.LineBreak
-        (AllByRecursion InLine text.now)) }
-    ensures kept { Keeps into.old.items into.new.items }
+        (AllByRecursion IsLineByte text.now)) }
+    ensures kept { IsPrefixOf into.old.items into.new.items }
     ensures capacity { vec_capacity into.old ≤ vec_capacity into.new }
-    ensures full { IfErr result (IsFullWith (AllByRecursion InLine text.now) into.old
+    ensures full { IfErr result (OutOfMemoryOnlyWith (AllByRecursion IsLineByte text.now) into.old
         (marked mark text.now)) }
 {
     if !is_line(text) {
@@ -92,9 +92,10 @@ fn write_double<B: Allocator>(text: &[u8], into: &mut Vec<u8, B>) -> Result<(), 
     ensures written { OnOk result (IsDouble text.now
         × (into.new.items ≡ into.old.items ++ marked 44 text.now)) }
     ensures refused { IfErr result (IsRefusedAs errors.Double (IsDouble text.now)) }
-    ensures kept { Keeps into.old.items into.new.items }
+    ensures kept { IsPrefixOf into.old.items into.new.items }
     ensures capacity { vec_capacity into.old ≤ vec_capacity into.new }
-    ensures full { IfErr result (IsFullWith (IsDouble text.now) into.old (marked 44 text.now)) }
+    ensures full { IfErr result
+        (OutOfMemoryOnlyWith (IsDouble text.now) into.old (marked 44 text.now)) }
 {
     if !is_double(text) {
         return Err(WriteError::Double);
@@ -108,9 +109,10 @@ fn write_big_number<B: Allocator>(text: &[u8], into: &mut Vec<u8, B>) -> Result<
     ensures written { OnOk result (IsBigNumber text.now
         × (into.new.items ≡ into.old.items ++ marked 40 text.now)) }
     ensures refused { IfErr result (IsRefusedAs errors.BigNumber (IsBigNumber text.now)) }
-    ensures kept { Keeps into.old.items into.new.items }
+    ensures kept { IsPrefixOf into.old.items into.new.items }
     ensures capacity { vec_capacity into.old ≤ vec_capacity into.new }
-    ensures full { IfErr result (IsFullWith (IsBigNumber text.now) into.old (marked 40 text.now)) }
+    ensures full { IfErr result
+        (OutOfMemoryOnlyWith (IsBigNumber text.now) into.old (marked 40 text.now)) }
 {
     if !is_big_number(text) {
         return Err(WriteError::BigNumber);
@@ -124,10 +126,10 @@ fn write_verbatim<B: Allocator>(bytes: &[u8], into: &mut Vec<u8, B>) -> Result<(
     ensures written { OnOk result (IsVerbatim bytes.now
         × (into.new.items ≡ into.old.items ++ data_of 61 bytes.now)) }
     ensures refused { IfErr result (IsRefusedAs errors.Format (IsVerbatim bytes.now)) }
-    ensures kept { Keeps into.old.items into.new.items }
+    ensures kept { IsPrefixOf into.old.items into.new.items }
     ensures capacity { vec_capacity into.old ≤ vec_capacity into.new }
     ensures full { IfErr result
-        (IsFullWith (IsVerbatim bytes.now) into.old (data_of 61 bytes.now)) }
+        (OutOfMemoryOnlyWith (IsVerbatim bytes.now) into.old (data_of 61 bytes.now)) }
 {
     if !is_verbatim(bytes) {
         return Err(WriteError::Format);
@@ -164,7 +166,7 @@ fn begins<A: Allocator>(reply: &Reply<&[u8], A>) -> Mark
 /// Whether a reply is of a kind that the version of the protocol does not have.
 fn is_foreign<A: Allocator>(protocol: Protocol, reply: &Reply<&[u8], A>) -> bool
     ensures { MatchBool result (IsForeign protocol reply.now)
-        (IsIn protocol (first_mark reply.now)) }
+        (IsInProtocol protocol (first_mark reply.now)) }
 {
     if is_in(protocol, begins(reply)) {
         false
@@ -182,12 +184,13 @@ fn write_elements<A: Allocator, B: Allocator>(
     into: &mut Vec<u8, B>,
 ) -> Result<(), WriteError>
     ensures written { OnOk result
-        (Adds (EachText (WrittenText protocol level)) replies.now into.old.items
+        (Appends (EachText (WrittenText protocol level)) replies.now into.old.items
         into.new.items) }
     ensures refused { IfErr result (IsRefusedAmong protocol level replies.now) }
-    ensures kept { Keeps into.old.items into.new.items }
+    ensures kept { IsPrefixOf into.old.items into.new.items }
     ensures capacity { vec_capacity into.old ≤ vec_capacity into.new }
-    ensures full { IfErr result (IsFullForEach (EachText (WrittenText protocol level)) replies.now
+    ensures full { IfErr result
+        (OutOfMemoryOnlyIfFullForEach (EachText (WrittenText protocol level)) replies.now
         into.old) }
 {
     for reply in replies {
@@ -205,13 +208,13 @@ fn write_list<A: Allocator, B: Allocator>(
     replies: &Vec<Reply<&[u8], A>, A>,
     into: &mut Vec<u8, B>,
 ) -> Result<(), WriteError>
-    ensures written { OnOk result (IsIn protocol (Aggregate mark)
-        → Adds (WrittenText protocol level) (gathered mark replies.now)
+    ensures written { OnOk result (IsInProtocol protocol (Aggregate mark)
+        → Appends (WrittenText protocol level) (gathered mark replies.now)
         into.old.items into.new.items) }
     ensures refused { IfErr result (IsRefused protocol level (gathered mark replies.now)) }
-    ensures kept { Keeps into.old.items into.new.items }
+    ensures kept { IsPrefixOf into.old.items into.new.items }
     ensures capacity { vec_capacity into.old ≤ vec_capacity into.new }
-    ensures full { IfErr result (IsFullForEach (WrittenText protocol level)
+    ensures full { IfErr result (OutOfMemoryOnlyIfFullForEach (WrittenText protocol level)
         (gathered mark replies.now) into.old) }
 {
     if level == 0 {
@@ -234,12 +237,13 @@ fn write_nested<A: Allocator, B: Allocator>(
     reply: &Reply<&[u8], A>,
     into: &mut Vec<u8, B>,
 ) -> Result<(), WriteError>
-    ensures written { OnOk result (Adds (WrittenText protocol level) reply.now into.old.items
+    ensures written { OnOk result (Appends (WrittenText protocol level) reply.now into.old.items
         into.new.items) }
     ensures refused { IfErr result (IsRefused protocol level reply.now) }
-    ensures kept { Keeps into.old.items into.new.items }
+    ensures kept { IsPrefixOf into.old.items into.new.items }
     ensures capacity { vec_capacity into.old ≤ vec_capacity into.new }
-    ensures full { IfErr result (IsFullForEach (WrittenText protocol level) reply.now into.old) }
+    ensures full { IfErr result
+        (OutOfMemoryOnlyIfFullForEach (WrittenText protocol level) reply.now into.old) }
 {
     if is_foreign(protocol, reply) {
         return Err(WriteError::Foreign);
@@ -310,13 +314,14 @@ pub fn write_reply<A: Allocator, B: Allocator>(
     reply: &Reply<&[u8], A>,
     into: &mut Vec<u8, B>,
 ) -> Result<(), WriteError>
-    ensures written { OnOk result (Adds (WrittenText protocol level) reply.now into.old.items
+    ensures written { OnOk result (Appends (WrittenText protocol level) reply.now into.old.items
         into.new.items) }
     ensures text { OnOk result
-        (Adds (ReplyText protocol level) reply.now into.old.items into.new.items) }
+        (Appends (ReplyText protocol level) reply.now into.old.items into.new.items) }
     ensures refused { IfErr result (IsRefused protocol level reply.now) }
     ensures kept { OnErr result (into.new.items ≡ into.old.items) }
-    ensures full { IfErr result (IsFullForEach (WrittenText protocol level) reply.now into.old) }
+    ensures full { IfErr result
+        (OutOfMemoryOnlyIfFullForEach (WrittenText protocol level) reply.now into.old) }
 {
     let before = into.len();
     match write_nested(protocol, level, reply, into) {
@@ -331,7 +336,7 @@ pub fn write_reply<A: Allocator, B: Allocator>(
 /// Appends bulk strings.
 fn write_bulks<B: Allocator>(parts: &[&[u8]], into: &mut Vec<u8, B>) -> Result<(), AllocError>
     ensures written { OnOk result (into.new.items ≡ into.old.items ++ bulks_of parts.now) }
-    ensures kept { Keeps into.old.items into.new.items }
+    ensures kept { IsPrefixOf into.old.items into.new.items }
     ensures capacity { vec_capacity into.old ≤ vec_capacity into.new }
     ensures full { OnErr result (LacksRoom into.old (bulks_of parts.now)) }
 {
@@ -344,7 +349,7 @@ fn write_bulks<B: Allocator>(parts: &[&[u8]], into: &mut Vec<u8, B>) -> Result<(
 /// Appends the size of an array and its bulk strings.
 fn write_parts<B: Allocator>(parts: &[&[u8]], into: &mut Vec<u8, B>) -> Result<(), AllocError>
     ensures written { OnOk result (into.new.items ≡ into.old.items ++ command_of parts.now) }
-    ensures kept { Keeps into.old.items into.new.items }
+    ensures kept { IsPrefixOf into.old.items into.new.items }
     ensures capacity { vec_capacity into.old ≤ vec_capacity into.new }
     ensures full { OnErr result (LacksRoom into.old (command_of parts.now)) }
 {
@@ -375,7 +380,7 @@ pub fn write_command<B: Allocator>(parts: &[&[u8]], into: &mut Vec<u8, B>) -> Re
     ensures refused { IfErr result (λ e. (e ≡ errors.OutOfMemory)
         ⊎ ((e ≡ errors.NoParts) × (parts.now ≡ []))) }
     ensures kept { OnErr result (into.new.items ≡ into.old.items) }
-    ensures full { IfErr result (IsFullFor into.old (command_of parts.now)) }
+    ensures full { IfErr result (OutOfMemoryOnlyIfFull into.old (command_of parts.now)) }
 {
     if parts.is_empty() {
         return Err(WriteError::NoParts);

@@ -16,7 +16,8 @@ use Rattle.winnow_expression.specs.declared.combinator.places.Next.TheVariants.{
 use Rattle.winnow_expression_trees.specs.Failure.{ReadsTo, EndedBy, comes_infix, comes_operand}
 use Rattle.winnow_expression_trees.specs.Failure.{comes_postfix, comes_prefix, comes_start}
 use Rattle.winnow_expression_trees.specs.OneTree.Alike.{Decided}
-use Rattle.winnow_expression_trees.proofs.Plain.{Plain, decided, no_first, no_next}
+use Rattle.winnow_expression_trees.proofs.Plain.{Plain, decided, failed_has_no_operand_step}
+use Rattle.winnow_expression_trees.proofs.Plain.{failed_has_no_operator_step}
 
 true_false : {X : Type 0} → true ≡ false → X
 true_false e = absurd (cc)
@@ -108,16 +109,16 @@ module _ {S W T V F G H : Type 0} {g : Grammar S W T V F G H} {alike : V → V �
   first_ends : (t : S) (i j : Input T) (k : Kind) → g.first s0.0 i (Err k) t j
       → (k ≡ memory → ⊥) → Last (decided pr) true i
   first_ends t i j k run other true m (p, f, read) =
-      no_first pr t i j m k (prefix_read p f) run other read
+      failed_has_no_operand_step pr t i j m k (prefix_read p f) run other read
   first_ends t i j k run other false m (v, read) =
-      no_first pr t i j m k (Operand v) run other read
+      failed_has_no_operand_step pr t i j m k (Operand v) run other read
 
   next_ends : (t : W) (i j : Input T) (k : Kind) → g.next s0.1 i (Err k) t j
       → (k ≡ memory → ⊥) → Last (decided pr) false i
   next_ends t i j k run other true m (o, read) =
-      no_next pr t i j m k (infix_read o) run other read
+      failed_has_no_operator_step pr t i j m k (infix_read o) run other read
   next_ends t i j k run other false m (p, f, read) =
-      no_next pr t i j m k (Postfix p f) run other read
+      failed_has_no_operator_step pr t i j m k (Postfix p f) run other read
 
   pub ends_once : (i : Input T) (k l : Kind) (j n : Input T) → EndedBy g s0 i k j
       → EndedBy g s0 i l n → (k ≡ memory → ⊥) → (l ≡ memory → ⊥) → (k ≡ l) × (j ≡ n)

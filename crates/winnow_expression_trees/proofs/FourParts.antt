@@ -38,7 +38,7 @@ use Rattle.winnow_expression_trees.specs.OneTree.Alike.{Decided}
 use Rattle.winnow_expression_trees.specs.Premises.{AlikePostfix, AlikePrefix, Decides}
 use Rattle.winnow_expression_trees.specs.Premises.{FoldAlike, FoldsAlike}
 use Rattle.winnow_expression_trees.specs.Premises.{NotMemory, Premises}
-use Rattle.winnow_expression_trees.specs.Reading.{FirstStep, NextStep}
+use Rattle.winnow_expression_trees.specs.Reading.{OperandStep, OperatorStep}
 use Rattle.winnow_expression_trees.proofs.Plain.{Plain, first_run}
 
 not_back : backtrack ≡ memory → ⊥
@@ -218,7 +218,7 @@ module _ {S1 S2 S3 S4 T V F G H : Type 0} (units : List T → ℕ) (refusal : Ki
       (ah : H → H → Type 0) (s : (S1 × S2) × (S3 × S4)) → Decides av operand s.0.0
       → Decides (AlikePrefix af) prefix s.0.1 → Decides (AlikePostfix ag) postfix s.1.0
       → Decides (AlikeInfix ah) infix_ s.1.1
-      → Decided av af ag ah (FirstStep whole s) (NextStep whole s)
+      → Decided av af ag ah (OperandStep whole s) (OperatorStep whole s)
   decided_parts av af ag ah s po pp pq pi = record {
     firsts = λ i j k x y r q. first_decided av af operand prefix s.0.0 s.0.1 po pp i j k (Ok x)
         (Ok y) s.0 s.0 (first_run whole s i j x r) (first_run whole s i k y q) tt tt;
@@ -293,7 +293,7 @@ module _ {S1 S2 S3 S4 T L V F G H : Type 0} (reading : Reading T L) (form : Erro
       let l = pr.infixes.keeps (back_at i.left m) n (Err backtrack) t.1 q not_back in
       (pair_same t (s3, s4) k.0 l.0, ap (λ z. z.status) place ∙ l.1 ∙ k.1)
 
-  nothing_stays : (i j : Input T) → NextStep parts states i Nothing j → j ≡ i
+  nothing_stays : (i j : Input T) → OperatorStep parts states i Nothing j → j ≡ i
   nothing_stays i j (inl (none, e, kept, place)) = place
   nothing_stays i j (inr (some, inl (p, r, kept, e))) = absurd (cc)
   nothing_stays i j (inr (some, inr (inl (k, r, unlike, kept, e)))) = ok_is_err refl e
@@ -318,12 +318,13 @@ module _ {S1 S2 S3 S4 T L V F G H : Type 0} (reading : Reading T L) (form : Erro
       fallen i j (first_ran reading d1 d2 form (s1, s2) i (Ok x) (s1, s2) j run).0
       (keeps_first i j (Ok x) (s1, s2) run tt).1
 
-  next_falls : (i j : Input T) (x : Next G H) → NextStep parts states i x j → Fallen i j
+  next_falls : (i j : Input T) (x : Next G H) → OperatorStep parts states i x j → Fallen i j
   next_falls i j x step =
       fallen i j (next_ran reading d3 d4 form (s3, s4) i (Ok x) (s3, s4) j step).0
       (keeps_next i j (Ok x) (s3, s4) step tt).1
 
-  neither_moves : (i j : Input T) (o : Infix H) (p : ℤ) → NextStep parts states i (infix_read o) j
+  neither_moves : (i j : Input T) (o : Infix H) (p : ℤ)
+      → OperatorStep parts states i (infix_read o) j
       → neither_power o ≡ Some p → units_left reading.units j < units_left reading.units i
   neither_moves i j o p (inl (none, e, kept, place)) is = absurd (cc)
   neither_moves i j o p (inr (some, inl (x, r, kept, e))) is = absurd (cc)

@@ -14,23 +14,26 @@ use Rattle.winnow_expression.specs.Operators.{fold_of}
 use Rattle.winnow_expression.specs.declared.combinator.places.First.{First}
 use Rattle.winnow_expression.specs.declared.combinator.places.Next.{Next}
 use Rattle.winnow_expression_trees.specs.Alike.{AlikeTree}
-use Rattle.winnow_expression_trees.specs.Failure.{EndedBy, ReadsTo, RejectedBy, StartsOperand}
-use Rattle.winnow_expression_trees.specs.Failure.{TakesLeft, Unmoved, begins_infix, begins_prefix}
-use Rattle.winnow_expression_trees.specs.Failure.{begins_whole, comes_infix, comes_operand}
-use Rattle.winnow_expression_trees.specs.Failure.{comes_postfix, comes_prefix, comes_start}
-use Rattle.winnow_expression_trees.specs.Keeps.{Above, Binds, Keeps, Outcome, Reaches}
+use Rattle.winnow_expression_trees.specs.Failure.{EndedBy, HasEmptyOperator, ReadsTo}
+use Rattle.winnow_expression_trees.specs.Failure.{RejectedByPrecedence, StartsOperand, TakesLeft}
+use Rattle.winnow_expression_trees.specs.Failure.{begins_infix, begins_prefix, begins_whole}
+use Rattle.winnow_expression_trees.specs.Failure.{comes_infix, comes_operand, comes_postfix}
+use Rattle.winnow_expression_trees.specs.Failure.{comes_prefix, comes_start}
+use Rattle.winnow_expression_trees.specs.Keeps.{Above, Binds, LeftEdgeReaches, Outcome}
+use Rattle.winnow_expression_trees.specs.Keeps.{RespectsPrecedence}
 use Rattle.winnow_expression_trees.specs.OneTree.TreeCalls.{Reads, Grows, grows_block}
 use Rattle.winnow_expression_trees.specs.OneTree.TreeCalls.{grows_ended, grows_infix}
 use Rattle.winnow_expression_trees.specs.OneTree.TreeCalls.{grows_postfix, grows_stop}
 use Rattle.winnow_expression_trees.specs.OneTree.Views.{Follows}
-use Rattle.winnow_expression_trees.specs.Reading.{FirstStep, NextStep, Over, power_of}
+use Rattle.winnow_expression_trees.specs.Reading.{IsTreeOver, OperandStep, OperatorStep, power_of}
 use Rattle.winnow_expression_trees.specs.Tree.{Tree, leaf, before, behind, between, top_neither}
 use Rattle.winnow_expression_trees.specs.Value.{Value}
 use Rattle.winnow_expression_trees.proofs.Plain.{Plain}
 
 comes_over : {V F G H P : Type 0} (first : P → First V F → P → Type 0)
     (next : P → Next G H → P → Type 0) (start : P) (t : Tree V F G H) (i j : P)
-    → ReadsTo first next start true i → Over first next t i j → ReadsTo first next start false j
+    → ReadsTo first next start true i → IsTreeOver first next t i j
+    → ReadsTo first next start false j
 comes_over first next start (leaf v) i j c o = comes_operand i j v c o
 comes_over first next start (before p f r) i j c o =
     comes_over first next start r o.0 j (comes_prefix i o.0 p f c o.1) o.2
@@ -44,10 +47,10 @@ module _ {S W T V F G H : Type 0} {g : Grammar S W T V F G H} {alike : V → V �
     {af : F → F → Type 0} {ag : G → G → Type 0} {ah : H → H → Type 0} {s0 : S × W}
     (pr : Plain g alike af ag ah s0) where
   abbrev first : Input T → First V F → Input T → Type 0
-  first = FirstStep g s0
+  first = OperandStep g s0
 
   abbrev next : Input T → Next G H → Input T → Type 0
-  next = NextStep g s0
+  next = OperatorStep g s0
 
   -- the parts are in their states
   abbrev pub Kept : S × W → Type 0
@@ -108,17 +111,17 @@ module _ {S W T V F G H : Type 0} {g : Grammar S W T V F G H} {alike : V → V �
     -- value.
     abbrev pub Fails : ℤ → Input T → Kind → Input T → Type 0
     Fails m at k j =
-        ((EndedBy g s0 start k j ⊎ Unmoved g s0 start)
+        ((EndedBy g s0 start k j ⊎ HasEmptyOperator g s0 start)
         × ((r : Tree V F G H) (n : Input T) (b : Bool) → Reads first next m at r n b → ⊥))
-        ⊎ (RejectedBy g s0 level start k j
+        ⊎ (RejectedByPrecedence g s0 level start k j
         × ((r : Tree V F G H) (n : Input T) (b : Bool) (x : V) → Reads first next m at r n b
         → Value g r x → ⊥))
 
     -- The outcome of the call: the value of a tree that respects precedence, or such a failure.
     abbrev pub Told : Setting → ℤ → Input T → CallOutcome (End (S × W × ℤ) T) (V × Bool) → Type 0
     Told at m i (took x e) =
-        Kept (e.0.0, e.0.1) × (r : Tree V F G H) × Over first next r i (here at e.1)
-        × Keeps next m r (here at e.1) x.1 × Value g r x.0
+        Kept (e.0.0, e.0.1) × (r : Tree V F G H) × IsTreeOver first next r i (here at e.1)
+        × RespectsPrecedence next m r (here at e.1) x.1 × Value g r x.0
     Told at m i (backs e) = Fails m i backtrack (here at e.1)
     Told at m i (cuts e) = Fails m i cut (here at e.1)
     Told at m i (asks need e) = Fails m i (incomplete need) (here at e.1)
@@ -131,9 +134,9 @@ module _ {S W T V F G H : Type 0} {g : Grammar S W T V F G H} {alike : V → V �
       pub tree : Tree V F G H
       pub begins : StartsOperand g s0 level start call.least at
       pub began : call.began ≡ units_left g.folding.units at
-      pub over : Over first next tree at i
+      pub over : IsTreeOver first next tree at i
       pub binds : Binds tree
-      pub reaches : Reaches call.least tree
+      pub reaches : LeftEdgeReaches call.least tree
       pub above : (x : Next G H) (n : Input T) → next i x n → Above tree x
       pub top : call.neither ≡ top_neither tree
       pub value : Value g tree left
@@ -184,7 +187,7 @@ module _ {S W T V F G H : Type 0} {g : Grammar S W T V F G H} {alike : V → V �
         subst (λ z. Told at call.least start_ z) (sym is) (
           kept,
           known.tree,
-          subst (λ k. Over first next known.tree start_ k) (sym place) known.over,
+          subst (λ k. IsTreeOver first next known.tree start_ k) (sym place) known.over,
           record {
             binds = known.binds;
             reaches = known.reaches;

@@ -25,26 +25,28 @@ use Rattle.winnow_expression.specs.declared.combinator.places.First.TheVariants.
 use Rattle.winnow_expression.specs.declared.combinator.places.Next.{Next}
 use Rattle.winnow_expression.specs.declared.combinator.places.Next.TheVariants.{Infix as infix_read}
 use Rattle.winnow_expression_trees.specs.Alike.{AlikeTree}
-use Rattle.winnow_expression_trees.specs.Failure.{RejectedBy, StartsOperand, Unmoved}
-use Rattle.winnow_expression_trees.specs.Keeps.{Binds, EdgeAbove, Keeps, Meets, MeetsHere, Reaches}
+use Rattle.winnow_expression_trees.specs.Failure.{HasEmptyOperator, RejectedByPrecedence}
+use Rattle.winnow_expression_trees.specs.Failure.{StartsOperand}
+use Rattle.winnow_expression_trees.specs.Keeps.{Binds, LeftEdgeReaches, Meets, MeetsHere}
+use Rattle.winnow_expression_trees.specs.Keeps.{RespectsPrecedence, RightEdgeBelow}
 use Rattle.winnow_expression_trees.specs.OneTree.Alike.{alike_top}
 use Rattle.winnow_expression_trees.specs.OneTree.TreeCalls.{Reads}
 use Rattle.winnow_expression_trees.specs.OneTree.Views.{Follows, infix_at, prefix_at}
-use Rattle.winnow_expression_trees.specs.Reading.{FirstStep, NextStep, Over}
+use Rattle.winnow_expression_trees.specs.Reading.{IsTreeOver, OperandStep, OperatorStep}
 use Rattle.winnow_expression_trees.specs.Tree.{Tree, before, between, top_neither}
 use Rattle.winnow_expression_trees.specs.Value.{Value}
 use Rattle.winnow_expression_trees.proofs.Left.{IsLeft, comes_left, left_takes, value_alike}
-use Rattle.winnow_expression_trees.proofs.Over.{no_turn_still, over_falls}
+use Rattle.winnow_expression_trees.proofs.Over.{no_turn_still, tree_over_shortens}
 use Rattle.winnow_expression_trees.proofs.Plain.{Plain, decided}
 
 module _ {S W T V F G H : Type 0} {g : Grammar S W T V F G H} {alike : V → V → Type 0}
     {af : F → F → Type 0} {ag : G → G → Type 0} {ah : H → H → Type 0} {s0 : S × W}
     (pr : Plain g alike af ag ah s0) (level : ℤ) (start : Input T) where
   abbrev first : Input T → First V F → Input T → Type 0
-  first = FirstStep g s0
+  first = OperandStep g s0
 
   abbrev next : Input T → Next G H → Input T → Type 0
-  next = NextStep g s0
+  next = OperatorStep g s0
 
   -- its fold fails, for the value of the right operand
   abbrev FoldFails : Operator V F H → V → Kind → Input T → Input T → Type 0
@@ -66,21 +68,22 @@ module _ {S W T V F G H : Type 0} {g : Grammar S W T V F G H} {alike : V → V �
         → (k ≡ memory → ⊥) → ⊥))
     pub begins : StartsOperand g s0 level start x.call.least at
     pub began : x.call.began ≡ units_left g.folding.units at
-    pub over : (r : Tree V F G H) (n : Input T) → Over first next r m n
-        → Over first next (build r) at n
-    pub binds : (r : Tree V F G H) → Binds r → Reaches p r → Binds (build r)
-    pub reaches : (r : Tree V F G H) → Reaches x.call.least (build r)
+    pub over : (r : Tree V F G H) (n : Input T) → IsTreeOver first next r m n
+        → IsTreeOver first next (build r) at n
+    pub binds : (r : Tree V F G H) → Binds r → LeftEdgeReaches p r → Binds (build r)
+    pub reaches : (r : Tree V F G H) → LeftEdgeReaches x.call.least (build r)
     pub top : (r : Tree V F G H) → x.call.neither ≡ top_neither (build r)
-    pub above : (r : Tree V F G H) (q : ℤ) → q <ℤ p → EdgeAbove r q → EdgeAbove (build r) q
+    pub above : (r : Tree V F G H) (q : ℤ) → q <ℤ p → RightEdgeBelow r q
+        → RightEdgeBelow (build r) q
     pub meets : (r : Tree V F G H) (q : ℤ) → Meets r q ⊎ MeetsHere p r q → Meets (build r) q
     pub gives : (r : Tree V F G H) (right v : V) (n z : Input T) → Value g r right
         → Closes g.folding x.operator x.call.turn n right (Ok v) z
         → Value g (build r) v × (z ≡ n)
     pub refuses : (r : Tree V F G H) (right : V) (k : Kind) (n z : Input T) (all : Bool)
-        → Over first next r m n → Keeps next p r n all → Value g r right
+        → IsTreeOver first next r m n → RespectsPrecedence next p r n all → Value g r right
         → Closes g.folding x.operator x.call.turn n right (Err k) z → (k ≡ memory → ⊥)
-        → (RejectedBy g s0 level start k z × FoldFails x.operator right k n z)
-        ⊎ (Unmoved g s0 start × ((u : Tree V F G H) (e : Input T) (b : Bool)
+        → (RejectedByPrecedence g s0 level start k z × FoldFails x.operator right k n z)
+        ⊎ (HasEmptyOperator g s0 start × ((u : Tree V F G H) (e : Input T) (b : Bool)
         → Reads first next x.call.least at u e b → ⊥))
 
   pub opened_prefix : (call : Call) (fold : F) (p : ℤ) (i m : Input T)
@@ -240,7 +243,7 @@ module _ {S W T V F G H : Type 0} {g : Grammar S W T V F G H} {alike : V → V �
                   ap (units_left g.folding.units) (sym (stays left right n z (Ok v) folded tt))
                   ∙ same in
                   let falls = pr.moves.nexts_fall i m (infix_read o) read in
-                  let more = over_falls (decided pr) pr.moves r m n over in
+                  let more = tree_over_shortens (decided pr) pr.moves r m n over in
                   inr (
                     inr (
                       i,

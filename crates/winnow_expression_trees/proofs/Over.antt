@@ -14,13 +14,13 @@ use Rattle.winnow_expression.specs.declared.combinator.places.Next.{Next}
 use Rattle.winnow_expression.specs.declared.combinator.places.Next.TheVariants.{Postfix}
 use Rattle.winnow_expression.specs.declared.combinator.places.Next.TheVariants.{Infix as infix_read}
 use Rattle.winnow_expression.specs.declared.combinator.operators.Infix.{Infix}
-use Rattle.winnow_expression_trees.specs.Reading.{Over}
+use Rattle.winnow_expression_trees.specs.Reading.{IsTreeOver}
 use Rattle.winnow_expression_trees.specs.OneTree.TreeCalls.{Reads, Grows, reads_operand}
 use Rattle.winnow_expression_trees.specs.OneTree.TreeCalls.{reads_prefix}
 use Rattle.winnow_expression_trees.specs.OneTree.TreeCalls.{reads_ended, grows_stop, grows_block}
 use Rattle.winnow_expression_trees.specs.OneTree.TreeCalls.{grows_postfix, grows_infix, grows_ended}
 use Rattle.winnow_expression_trees.specs.OneTree.Alike.{Decided, alike_power}
-use Rattle.winnow_expression_trees.specs.OneTree.Unique.{clash_flag}
+use Rattle.winnow_expression_trees.specs.OneTree.Unique.{false_is_not_true}
 
 -- Reading moves towards the end, and stays only if nothing is consumed. Prefixes and neithers
 -- consume input.
@@ -45,38 +45,39 @@ module _ {V F G H P : Type 0} {units : P → ℕ} {av : V → V → Type 0} {af 
     {ag : G → G → Type 0} {ah : H → H → Type 0} {first : P → First V F → P → Type 0}
     {next : P → Next G H → P → Type 0} (d : Decided av af ag ah first next)
     (moves : Moves units first next) where
-  pub over_falls : (t : Tree V F G H) (i j : P) → Over first next t i j → units j ≤ units i
-  over_falls (leaf v) i j o = moves.firsts_fall i j (Operand v) o
-  over_falls (before p f r) i j o =
+  pub tree_over_shortens : (t : Tree V F G H) (i j : P) → IsTreeOver first next t i j
+      → units j ≤ units i
+  tree_over_shortens (leaf v) i j o = moves.firsts_fall i j (Operand v) o
+  tree_over_shortens (before p f r) i j o =
       let a = moves.firsts_fall i o.0 (prefix_read p f) o.1 in
-      let b = over_falls r o.0 j o.2 in omega (arith, a, b)
-  over_falls (behind p g l) i j o =
-      let a = over_falls l i o.0 o.1 in
+      let b = tree_over_shortens r o.0 j o.2 in omega (arith, a, b)
+  tree_over_shortens (behind p g l) i j o =
+      let a = tree_over_shortens l i o.0 o.1 in
       let b = moves.nexts_fall o.0 j (Postfix p g) o.2 in omega (arith, a, b)
-  over_falls (between x l r) i j o =
-      let a = over_falls l i o.0 o.2 in
+  tree_over_shortens (between x l r) i j o =
+      let a = tree_over_shortens l i o.0 o.2 in
       let b = moves.nexts_fall o.0 o.1 (infix_read x) o.3 in
-      let c = over_falls r o.1 j o.4 in omega (arith, a, b, c)
+      let c = tree_over_shortens r o.1 j o.4 in omega (arith, a, b, c)
 
   -- a tree over nothing begins with an operand over nothing
-  pub over_first : (t : Tree V F G H) (i j : P) → Over first next t i j → units j ≡ units i
+  pub over_first : (t : Tree V F G H) (i j : P) → IsTreeOver first next t i j → units j ≡ units i
       → (j ≡ i) × (v : V) × first i (Operand v) i
   over_first (leaf v) i j o e =
       let same = moves.firsts_stay i j (Operand v) o e in
       (same, v, subst (λ z. first i (Operand v) z) same o)
   over_first (before p f r) i j o e =
       let a = moves.prefix_moves i o.0 p f o.1 in
-      let b = over_falls r o.0 j o.2 in absurd (omega (arith, a, b, e))
+      let b = tree_over_shortens r o.0 j o.2 in absurd (omega (arith, a, b, e))
   over_first (behind p g l) i j o e =
-      let a = over_falls l i o.0 o.1 in
+      let a = tree_over_shortens l i o.0 o.1 in
       let b = moves.nexts_fall o.0 j (Postfix p g) o.2 in
       let same = over_first l i o.0 o.1 (omega (arith, a, b, e)) in
       let last = moves.nexts_stay o.0 j (Postfix p g) o.2 (omega (arith, a, b, e)) in
       (last ∙ same.0, same.1, same.2)
   over_first (between x l r) i j o e =
-      let a = over_falls l i o.0 o.2 in
+      let a = tree_over_shortens l i o.0 o.2 in
       let b = moves.nexts_fall o.0 o.1 (infix_read x) o.3 in
-      let c = over_falls r o.1 j o.4 in
+      let c = tree_over_shortens r o.1 j o.4 in
       let same = over_first l i o.0 o.2 (omega (arith, a, b, c, e)) in
       let middle = moves.nexts_stay o.0 o.1 (infix_read x) o.3 (omega (arith, a, b, c, e)) in
       let last = over_first r o.1 j o.4 (omega (arith, a, b, c, e)) in
@@ -154,7 +155,7 @@ module _ {V F G H P : Type 0} {units : P → ℕ} {av : V → V → Type 0} {af 
         (grows_ended m q l r i j k other reaches free_ inner) e free =
         let same = d.nexts x j x (infix_read q) (infix_read o)
         (subst (λ z. next z (infix_read q) j) e other) goes in
-        clash_flag (sym
+        false_is_not_true (sym
         (reads_stays x v o read goes none (right_power q) j r k true inner same.1).1)
 
   -- So no finite reading goes through an infix over nothing, after an operand over nothing.
@@ -169,11 +170,11 @@ module _ {V F G H P : Type 0} {units : P → ℕ} {av : V → V → Type 0} {af 
 
   -- nothing was consumed since the call began
   pub no_turn_begun : (start i j : P) (o : Infix H) (m : ℤ) (k l t : Tree V F G H) (n : P)
-      (b : Bool) → Over first next k start i → next i (infix_read o) j → units j ≡ units start
+      (b : Bool) → IsTreeOver first next k start i → next i (infix_read o) j → units j ≡ units start
       → Grows first next m l i t n b → (top_neither l ≡ Some (left_power o) → ⊥)
       → m ≤ℤ left_power o → ⊥
   no_turn_begun start i j o m k l t n b over read still grows free reach =
-      let falls = over_falls k start i over in
+      let falls = tree_over_shortens k start i over in
       let more = moves.nexts_fall i j (infix_read o) read in
       let (same, v, operand) = over_first k start i over (omega (arith, falls, more, still)) in
       let stays = moves.nexts_stay i j (infix_read o) read (omega (arith, falls, more, still)) in
@@ -182,11 +183,11 @@ module _ {V F G H P : Type 0} {units : P → ℕ} {av : V → V → Type 0} {af 
 
   -- nothing was consumed in the turn
   pub no_turn_still : (i j k : P) (o : Infix H) (m : ℤ) (l r t : Tree V F G H) (n : P) (b : Bool)
-      → next i (infix_read o) j → Over first next r j k → units k ≡ units i
+      → next i (infix_read o) j → IsTreeOver first next r j k → units k ≡ units i
       → Grows first next m l i t n b → (top_neither l ≡ Some (left_power o) → ⊥)
       → m ≤ℤ left_power o → ⊥
   no_turn_still i j k o m l r t n b read over still grows free reach =
-      let falls = over_falls r j k over in
+      let falls = tree_over_shortens r j k over in
       let more = moves.nexts_fall i j (infix_read o) read in
       let (same, v, operand) = over_first r j k over (omega (arith, falls, more, still)) in
       let stays = moves.nexts_stay i j (infix_read o) read (omega (arith, falls, more, still)) in

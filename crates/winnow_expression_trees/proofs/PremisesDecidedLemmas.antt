@@ -14,13 +14,14 @@ use Rattle.stream_errors.specs.Form.{ErrorForm}
 use Rattle.streams.specs.Bytes.{bytes_reading}
 use Rattle.streams.specs.Reading.{Reading}
 use Rattle.winnow_expression.specs.Did.{here}
-use Rattle.winnow_expression_trees.specs.Premises.Decided.{Moves, lacks_none, rest_is}
+use Rattle.winnow_expression_trees.specs.Premises.Decided.{ConsumesInput, lacks_none, rest_is}
 
 -- a byte does
 pub byte_moves : (spells : ℕ → List ℕ → Type 0)
     → ((b : ℕ) (xs : List ℕ) → spells b xs → xs ≡ b ∷ []) → (output : ℕ → Bor (List ℕ) → ℕ)
     → (form : ErrorForm) (b : ℕ)
-    → Moves bytes_reading.units (Ran bytes_reading (LiteralDoes bytes_reading spells output) form) b
+    → ConsumesInput bytes_reading.units
+    (Ran bytes_reading (LiteralDoes bytes_reading spells output) form) b
 byte_moves spells one output form b i j o t
     (end, more, possible, inl (p, rest, (front, slice, is, shown, passed, e), ends)) =
     let splits : i.left.tokens ≡ b ∷ j.left.tokens =
@@ -34,8 +35,8 @@ byte_moves spells one output form b i j o t (end, more, possible, inr (inr (othe
 
 pub value_moves : {S T L O U : Type 0} (reading : Reading T L) (is_clone : U → U → Type 0)
     (always : U → Type 0) (does : Does S T O) (form : ErrorForm) (s : S) (x : U)
-    → Moves reading.units (Ran reading does form) s
-    → Moves reading.units (Ran reading (ValueDoes is_clone always does) form) (s, x)
+    → ConsumesInput reading.units (Ran reading does form) s
+    → ConsumesInput reading.units (Ran reading (ValueDoes is_clone always does) form) (s, x)
 value_moves {T = T} reading is_clone always does form s x moves i j o t
     (end, more, possible, (took p e, d, (z, inl (u, c, e1), is))) =
     let P : Left T → Type 0 = λ l. does (setting_of form i) s (left_of i) (took p (e.0, l)) in
@@ -61,9 +62,9 @@ value_moves reading is_clone always does form s x moves i j o t
 -- a choice of two that consume does
 pub choice_moves : {S1 S2 T L O : Type 0} (reading : Reading T L) (one : Does S1 T O)
     (two : Does S2 T O) (form : ErrorForm) (s1 : S1) (s2 : S2)
-    → Moves reading.units (Ran reading one form) s1
-    → Moves reading.units (Ran reading two form) s2
-    → Moves reading.units (Ran reading (AltDoes one two) form) (s1, s2)
+    → ConsumesInput reading.units (Ran reading one form) s1
+    → ConsumesInput reading.units (Ran reading two form) s2
+    → ConsumesInput reading.units (Ran reading (AltDoes one two) form) (s1, s2)
 choice_moves {T = T} reading one two form s1 s2 h1 h2 i j o t
     (end, more, possible, (took p e, d, is)) =
     let P : Left T → Type 0 = λ l. one (setting_of form i) s1 (left_of i) (took p (e.0, l)) in

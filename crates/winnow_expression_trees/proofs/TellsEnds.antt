@@ -1,7 +1,6 @@
 -- What the ends of calls tell: the value of the tree that was read, or why the call fails.
 use Rattle.std.specs.Prelude.{◌≡◌, ◌⊎◌, ◌<ℤ◌, ◌≤ℤ◌, ℕ, ℤ, Bool, true, false, List, Option}
-use Rattle.std.specs.Prelude.{Some, None}
-use Rattle.std.specs.Prelude.{Ok, Err}
+use Rattle.std.specs.Prelude.{Some, None, Ok, Err}
 use Rattle.std.proofs.Common.{refl, sym, ◌∙◌, ap, subst, inl, inr, arith}
 use Rattle.std.specs.Int.Signed.{clash_ℤ}
 use Rattle.streams.specs.Input.{Input}
@@ -9,9 +8,8 @@ use Rattle.streams.specs.Kind.{Kind, backtrack, cut, incomplete, memory}
 use Rattle.streams.specs.Reading.{Reading}
 use Rattle.stream_errors.specs.Form.{Answer, assert_kind}
 use Rattle.stream_errors.specs.Form.Inversion.{same_err}
-use Rattle.parser_definitions.specs.Expression.{Call, JoinEnds, Open}
-use Rattle.parser_definitions.specs.Expression.{all_end, fails_as, first_last}
-use Rattle.parser_definitions.specs.Expression.{next_last}
+use Rattle.parser_definitions.specs.Expression.{Call, JoinEnds, Open, all_end, fails_as}
+use Rattle.parser_definitions.specs.Expression.{first_last, next_last}
 use Rattle.parser_definitions.specs.Left.{End, Left, back}
 use Rattle.parser_definitions.specs.Outcome.{Does, Outcome, Setting, asks, backs, cuts, outcome_of}
 use Rattle.parser_definitions.specs.Outcome.{took, wants}
@@ -40,19 +38,19 @@ use Rattle.winnow_expression.specs.declared.combinator.places.Next.TheVariants.{
 use Rattle.winnow_expression.specs.declared.combinator.places.Next.TheVariants.{Infix as infix_read}
 use Rattle.winnow_expression_trees.specs.Failure.{StartsOperand}
 use Rattle.winnow_expression_trees.specs.OneTree.Alike.{alike_top}
-use Rattle.winnow_expression_trees.specs.OneTree.Exact.{complete}
+use Rattle.winnow_expression_trees.specs.OneTree.Exact.{reads_tree_over}
 use Rattle.winnow_expression_trees.specs.OneTree.Unique.{reads_unique}
 use Rattle.winnow_expression_trees.specs.OneTree.Views.{grows_as, postfix_at, reads_as}
-use Rattle.winnow_expression_trees.specs.Reading.{FirstStep, NextStep, Over}
+use Rattle.winnow_expression_trees.specs.Reading.{IsTreeOver, OperandStep, OperatorStep}
 use Rattle.winnow_expression_trees.specs.Tree.{behind}
 use Rattle.winnow_expression_trees.proofs.Left.{Fails, IsLeft, Kept, Told, comes_begins, comes_left}
 use Rattle.winnow_expression_trees.proofs.Left.{failed, follows_value, grows_value, left_takes}
-use Rattle.winnow_expression_trees.proofs.Left.{stops}
-use Rattle.winnow_expression_trees.proofs.Left.{value_alike}
+use Rattle.winnow_expression_trees.proofs.Left.{stops, value_alike}
 use Rattle.winnow_expression_trees.proofs.Opened.{Opened}
-use Rattle.winnow_expression_trees.proofs.Over.{no_postfix_still, no_turn_begun, over_falls}
-use Rattle.winnow_expression_trees.proofs.Plain.{Plain, decided, no_first, no_next, no_prefix}
-use Rattle.winnow_expression_trees.proofs.Plain.{own_first, own_next, still_prefix}
+use Rattle.winnow_expression_trees.proofs.Over.{no_postfix_still, no_turn_begun, tree_over_shortens}
+use Rattle.winnow_expression_trees.proofs.Plain.{Plain, decided, no_prefix, still_prefix}
+use Rattle.winnow_expression_trees.proofs.Plain.{failed_has_no_operand_step, operator_step_of_run}
+use Rattle.winnow_expression_trees.proofs.Plain.{failed_has_no_operator_step, operand_step_of_run}
 
 some_is : {p q : ℤ} → ◌≡◌ {A = Option ℤ} (Some p) (Some q) → p ≡ q
 some_is e = cc
@@ -74,10 +72,10 @@ module _ {S W T L V F G H : Type 0} {reading : Reading T L} {at : Setting}
   g = step.Parts p
 
   abbrev first : Input T → First V F → Input T → Type 0
-  first = FirstStep g s0
+  first = OperandStep g s0
 
   abbrev next : Input T → Next G H → Input T → Type 0
-  next = NextStep g s0
+  next = OperatorStep g s0
 
   abbrev Known : Call → Input T → V → Left T → Type 0
   Known call begin left w = IsLeft pr level start call begin left (here at w)
@@ -100,7 +98,7 @@ module _ {S W T L V F G H : Type 0} {reading : Reading T L} {at : Setting}
         λ u n b reads.
             let (l, like, grows) = known.sees u n b reads in
             let (x, m, step_, more) = grows_as first next call.least l (here at w) u n b grows in
-            no_next pr e.0.1 (here at w) (here at e.1) m k x ran other step_,
+            failed_has_no_operator_step pr e.0.1 (here at w) (here at e.1) m k x ran other step_,
       ))
 
   -- the fold of a postfix fails, or the turn has consumed nothing
@@ -184,7 +182,7 @@ module _ {S W T L V F G H : Type 0} {reading : Reading T L} {at : Setting}
     where
       own : (x : Next G H) (e : End Q T) → run_next q.1 (here at w) (Ok x) e.0.1 (here at e.1)
           → (e.0.1 ≡ s0.1) × next (here at w) x (here at e.1)
-      own x e r = own_next pr q.1 e.0.1 (here at w) (here at e.1) x es.1 r
+      own x e r = operator_step_of_run pr q.1 e.0.1 (here at w) (here at e.1) x es.1 r
 
       by : (x : Outcome (End Q T) (Option (PostfixRead G ⊎ Infix H)))
           → Came at (step.NextAt p q w) x
@@ -231,7 +229,9 @@ module _ {S W T L V F G H : Type 0} {reading : Reading T L} {at : Setting}
       by (took (Some (inr o)) e) (r, stays, same_) (inr (reaches, inr (apart, inl (still, is)))) =
           let (later, read) = own (infix_read o) e r in
           let falls = pr.moves.nexts_fall (here at w) (here at e.1) (infix_read o) read in
-          let more = over_falls (decided pr) pr.moves known.tree begin (here at w) known.over in
+          let more =
+          tree_over_shortens (decided pr) pr.moves known.tree begin (here at w) known.over
+          in
           failed pr level start at call.least begin (assert_kind at.form) e (is ∙ sym (misuse at e))
           (λ other. inl (
             inr (inr (
@@ -279,7 +279,7 @@ module _ {S W T L V F G H : Type 0} {reading : Reading T L} {at : Setting}
             )),
             λ u n b reads.
                 let (x, m, step_, more) = reads_as first next call.least (here at w) u n b reads in
-                no_first pr e.0.0 (here at w) (here at e.1) m k x ran other step_,
+                failed_has_no_operand_step pr e.0.0 (here at w) (here at e.1) m k x ran other step_,
           ))
 
       by : (x : Outcome (End Q T) (V ⊎ PrefixRead F)) → Came at (step.FirstAt p q w) x
@@ -290,7 +290,7 @@ module _ {S W T L V F G H : Type 0} {reading : Reading T L} {at : Setting}
           failed pr level start at call.least (here at w) memory e is
           (λ other. absurd (other refl))
       by (took (inr x) e) (r, stays, same_) (inr (still, is)) =
-          let (later, read) = own_first pr q.0 e.0.0 (here at w) (here at e.1)
+          let (later, read) = operand_step_of_run pr q.0 e.0.0 (here at w) (here at e.1)
           (prefix_read x.0 x.1) es.0 r in
           let unmoved = still_prefix pr (here at w) (here at e.1) x.0 x.1 read still in
           failed pr level start at call.least (here at w) (assert_kind at.form) e
@@ -351,7 +351,7 @@ module _ {S W T L V F G H : Type 0} {reading : Reading T L} {at : Setting}
           subst (λ z. Told pr level start at x.call.least begin z) (sym is) (
             es,
             o.build r0,
-            subst (λ n. Over first next (o.build r0) begin n) (sym place)
+            subst (λ n. IsTreeOver first next (o.build r0) begin n) (sym place)
                 (o.over r0 (here at e.1) over),
             record {
               binds = o.binds r0 keeps.binds keeps.reaches;
@@ -380,7 +380,8 @@ module _ {S W T L V F G H : Type 0} {reading : Reading T L} {at : Setting}
                   let (v, value) = follows_value pr x.call.least u z r n d c follows y val in
                   let (w, other_, never) = values v value in
                   never right kind (here at e.1) (here at k) (value_alike pr r0 q
-                  (reads_unique (decided pr) power m r0 (here at e.1) all (complete first next power
+                  (reads_unique (decided pr) power m r0 (here at e.1) all
+                  (reads_tree_over first next power
                   r0 m (here at e.1) all over keeps) q z d more).0 right w known other_) folded_
                   other,
             )

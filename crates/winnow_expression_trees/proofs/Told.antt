@@ -35,17 +35,17 @@ use Rattle.winnow_expression.specs.declared.combinator.places.Next.{Next}
 use Rattle.winnow_expression.specs.declared.combinator.places.Next.TheVariants.{Postfix}
 use Rattle.winnow_expression.specs.declared.combinator.places.Next.TheVariants.{Infix as infix_read}
 use Rattle.winnow_expression_trees.specs.Failure.{StartsOperand, begins_infix, begins_prefix}
-use Rattle.winnow_expression_trees.specs.OneTree.Exact.{above_later, complete}
+use Rattle.winnow_expression_trees.specs.OneTree.Exact.{above_later, reads_tree_over}
 use Rattle.winnow_expression_trees.specs.OneTree.TreeCalls.{Grows}
-use Rattle.winnow_expression_trees.specs.OneTree.Unique.{clash_flag, reads_unique}
+use Rattle.winnow_expression_trees.specs.OneTree.Unique.{false_is_not_true, reads_unique}
 use Rattle.winnow_expression_trees.specs.OneTree.Views.{operand_at, postfix_at}
-use Rattle.winnow_expression_trees.specs.Reading.{FirstStep, NextStep}
+use Rattle.winnow_expression_trees.specs.Reading.{OperandStep, OperatorStep}
 use Rattle.winnow_expression_trees.specs.Tree.{leaf, behind, top_neither}
 use Rattle.winnow_expression_trees.proofs.Left.{IsLeft, Kept, Told}
 use Rattle.winnow_expression_trees.proofs.Left.{left_takes}
 use Rattle.winnow_expression_trees.proofs.Opened.{Opened, opened_infix, opened_prefix}
-use Rattle.winnow_expression_trees.proofs.Plain.{Plain, decided}
-use Rattle.winnow_expression_trees.proofs.Plain.{own_first, own_next}
+use Rattle.winnow_expression_trees.proofs.Plain.{Plain, decided, operand_step_of_run}
+use Rattle.winnow_expression_trees.proofs.Plain.{operator_step_of_run}
 use Rattle.winnow_expression_trees.proofs.TellsEnds.{join_ended, tail_ended, tree_ended}
 
 module _ {S W T L V F G H : Type 0} {reading : Reading T L} {at : Setting}
@@ -65,10 +65,10 @@ module _ {S W T L V F G H : Type 0} {reading : Reading T L} {at : Setting}
   g = step.Parts p
 
   abbrev first : Input T → First V F → Input T → Type 0
-  first = FirstStep g s0
+  first = OperandStep g s0
 
   abbrev next : Input T → Next G H → Input T → Type 0
-  next = NextStep g s0
+  next = OperatorStep g s0
 
   abbrev Known : Call → Input T → V → Left T → Type 0
   Known call begin left w = IsLeft pr level start call begin left (here at w)
@@ -93,7 +93,7 @@ module _ {S W T L V F G H : Type 0} {reading : Reading T L} {at : Setting}
         tree_ended p pr level start call q w y d es begins
     tree_told call q w y (tree_operand {u = u} {m = m} v read tail) es none began begins =
         let (r, stays, same_) = first_at p q w (took (inl v) (u, m)) read in
-        let own = own_first pr q.0 u.0 (here at w) (here at m) (Operand v) es.0 r in
+        let own = operand_step_of_run pr q.0 u.0 (here at w) (here at m) (Operand v) es.0 r in
         tail_told call v u m y tail (own.0, stays ∙ es.1) (here at w) (record {
           tree = leaf v;
           begins = begins;
@@ -113,7 +113,8 @@ module _ {S W T L V F G H : Type 0} {reading : Reading T L} {at : Setting}
         z} x read less inner joined) es none began
         begins =
         let (r, stays, same_) = first_at p q w (took (inr x) (u, m)) read in
-        let own = own_first pr q.0 u.0 (here at w) (here at m) (prefix_read x.0 x.1) es.0 r in
+        let own = operand_step_of_run pr q.0 u.0 (here at w) (here at m) (prefix_read x.0 x.1)
+        es.0 r in
         let step_ : first (here at w) (prefix_read x.0 x.1) (here at m) = (own.1, less) in
         join_told (record { operator = inl x; call = call }) z y joined x.0 (here at m) (here at w)
         (tree_told (call_at x.0 (units m.tokens)) u m z inner (own.0, stays ∙ es.1) refl refl
@@ -128,7 +129,8 @@ module _ {S W T L V F G H : Type 0} {reading : Reading T L} {at : Setting}
     tail_told call left q w y (tail_postfix {u = u} {m = m} {k = k} x v read reaches (z, f, c) tail)
         es begin known =
         let (r, stays, same_) = next_at p q w (took (Some (inl x)) (u, m)) read in
-        let own = own_next pr q.1 u.1 (here at w) (here at m) (Postfix x.0 x.1) es.1 r in
+        let own = operator_step_of_run pr q.1 u.1 (here at w) (here at m) (Postfix x.0 x.1) es.1
+        r in
         let folds = passed x.1 left v m k (units w.tokens) (took_came at
         (Checks units (assert_kind at.form) (units w.tokens)
         (λ b j. behind_ at.form x.1 (here at m) left b j))
@@ -168,7 +170,7 @@ module _ {S W T L V F G H : Type 0} {reading : Reading T L} {at : Setting}
     tail_told call left q w y (tail_infix {u = u} {m = m} {z = z} o read (reaches, apart, moved)
         inner joined) es begin known =
         let (r, stays, same_) = next_at p q w (took (Some (inr o)) (u, m)) read in
-        let own = own_next pr q.1 u.1 (here at w) (here at m) (infix_read o) es.1 r in
+        let own = operator_step_of_run pr q.1 u.1 (here at w) (here at m) (infix_read o) es.1 r in
         let free : top_neither known.tree ≡ Some (left_power o) → ⊥ =
         λ met. apart (known.top ∙ met) in
         join_told (opened (step.O p) call left o w) z y joined (right_power o) (here at m) begin
@@ -211,13 +213,13 @@ module _ {S W T L V F G H : Type 0} {reading : Reading T L} {at : Setting}
           sees = λ r k c reads.
               let (q, u, z, d, more, like, follows, values) = o.sees r k c reads in
               let (same_, place_, flag) = reads_unique (decided pr) power m r0 (here at n) false
-              (complete first next power r0 m (here at n) false over keeps) q z d more in
+              (reads_tree_over first next power r0 m (here at n) false over keeps) q z d more in
               elim follows [
                 | inl (is, grows) ↦ (
                   u,
                   like r0 same_,
                   subst (λ y. Grows first next x.call.least u y r k c) (sym place_) grows,
                 )
-                | inr ends ↦ clash_flag (flag ∙ ends.0)
+                | inr ends ↦ false_is_not_true (flag ∙ ends.0)
               ];
         }))

@@ -24,13 +24,13 @@ use Rattle.winnow_expression.specs.declared.combinator.operators.Prefix.{Prefix}
 use Rattle.winnow_expression.specs.declared.combinator.places.First.{First}
 use Rattle.winnow_expression.specs.declared.combinator.places.Next.{Next}
 use Rattle.winnow_expression_trees.specs.Accepting.{accepted, both_accepted}
-use Rattle.winnow_expression_trees.specs.Failure.{EndedBy, FailsBy, RejectedBy, Unmoved}
-use Rattle.winnow_expression_trees.specs.Failure.{begins_whole}
+use Rattle.winnow_expression_trees.specs.Failure.{EndedBy, FailsBy, HasEmptyOperator}
+use Rattle.winnow_expression_trees.specs.Failure.{RejectedByPrecedence, begins_whole}
 use Rattle.winnow_expression_trees.specs.OneTree.{IsTheOneTree, KeepsOver}
-use Rattle.winnow_expression_trees.specs.OneTree.Exact.{complete}
+use Rattle.winnow_expression_trees.specs.OneTree.Exact.{reads_tree_over}
 use Rattle.winnow_expression_trees.specs.OneTree.Unique.{one_tree}
 use Rattle.winnow_expression_trees.specs.Premises.{FoldAlike, FoldsAlike}
-use Rattle.winnow_expression_trees.specs.Reading.{FirstStep, NextStep}
+use Rattle.winnow_expression_trees.specs.Reading.{OperandStep, OperatorStep}
 use Rattle.winnow_expression_trees.specs.Tree.{Tree}
 use Rattle.winnow_expression_trees.specs.Value.{Value}
 use Rattle.winnow_expression_trees.proofs.Left.{Fails, Kept, Told, value_alike}
@@ -88,9 +88,12 @@ module _ {S W T L V F G H : Type 0} {reading : Reading T L} {at : Setting}
   agrees : (k : Kind) (j : Input T) → FailsNow k j → (r : Tree V F G H) (n : Input T)
       (all : Bool) (x : V) → KeepsOver g s0 level (here at w) r n all → Value g r x → ⊥
   agrees k j (inl (why, none)) r n all x (over, keeps) known =
-      none r n all (complete (FirstStep g s0) (NextStep g s0) level r (here at w) n all over keeps)
+      none r n all (reads_tree_over (OperandStep g s0) (OperatorStep g s0) level r (here at w) n
+      all over keeps)
   agrees k j (inr (refused, none)) r n all x (over, keeps) known =
-      none r n all x (complete (FirstStep g s0) (NextStep g s0) level r (here at w) n all over
+      none r n all x
+      (reads_tree_over (OperandStep g s0) (OperatorStep g s0) level r (here at w) n all
+      over
       keeps) known
 
   causes : (k : Kind) (j : Input T) → FailsNow k j → FailsBy g s0 level (here at w) k j
@@ -100,10 +103,10 @@ module _ {S W T L V F G H : Type 0} {reading : Reading T L} {at : Setting}
 
   refuses : (k : Kind) (j : Input T) → FailsNow k j → (r : Tree V F G H) (n : Input T)
       (all : Bool) → KeepsOver g s0 level (here at w) r n all
-      → RejectedBy g s0 level (here at w) k j
+      → RejectedByPrecedence g s0 level (here at w) k j
   refuses k j (inl (why, none)) r n all (over, keeps) =
       absurd (none r n all
-      (complete (FirstStep g s0) (NextStep g s0) level r (here at w) n all over keeps))
+      (reads_tree_over (OperandStep g s0) (OperatorStep g s0) level r (here at w) n all over keeps))
   refuses k j (inr (refused, none)) r n all keeps = refused
 
 pub expression_exact : {S W T L V F G H : Type 0} {reading : Reading T L} {at : Setting}
@@ -160,7 +163,8 @@ expression_exact {S} {W} {T} {V = V} {F} {G} {H} {at =
       fails = λ l e other. subst (λ z. FailsBy (step.Parts p) s0 level (here at w) z
           (here at (left_of j))) (same_kind e)
           (causes p pr level w k (here at (left_of j)) (why other));
-      refuses = λ l e other u n b keeps. subst (λ z. RejectedBy (step.Parts p) s0 level (here at
+      refuses = λ l e other u n b keeps. subst
+          (λ z. RejectedByPrecedence (step.Parts p) s0 level (here at
           w) z
           (here at (left_of j))) (same_kind e)
           (refuses p pr level w k (here at (left_of j)) (why other) u n b keeps);
@@ -176,7 +180,7 @@ expression_exact {S} {W} {T} {V = V} {F} {G} {H} {at =
 pub expression_fails : {S W T V F G H : Type 0} {g : Grammar S W T V F G H}
     {alike : V → V → Type 0} {s : S × W} {level : ℤ} {i : Input T} (k : Kind) {t : S × W}
     {j : Input T} → IsTheOneTree g alike s level i (Err k) t j → (k ≡ memory → ⊥)
-    → (RejectedBy g s level i k j → ⊥) → (Unmoved g s i → ⊥) → EndedBy g s i k j
+    → (RejectedByPrecedence g s level i k j → ⊥) → (HasEmptyOperator g s i → ⊥) → EndedBy g s i k j
 expression_fails k exact other accepts moves =
     elim (exact.fails k refl other) [
       | inl ended ↦ ended
@@ -240,7 +244,8 @@ module _ {S W T L V F G H : Type 0} {reading : Reading T L} {at : Setting}
     };
   }
 
-  no_refusal : RejectedBy (step.Parts parts) s0 level (here at w) k (here at (left_of j)) → ⊥
+  no_refusal : RejectedByPrecedence (step.Parts parts) s0 level (here at w) k
+      (here at (left_of j)) → ⊥
   no_refusal (inl (m, z, x, n, p, f, r, all, v, begins, read, over, keeps, value, folds)) =
       no_error V k folds.1
   no_refusal (inr (inl (m, z, x, n, p, f, l, v, begins, over, takes, read, value, folds))) =
@@ -281,7 +286,7 @@ module _ {S W T L V F G H : Type 0} {reading : Reading T L} {at : Setting}
 
   -- and it is the answer that ended the reading, or an operator was read that consumes nothing
   pub failure_ended : EndedBy (step.Parts p) s0 (here at w) k j
-      ⊎ Unmoved (step.Parts p) s0 (here at w)
+      ⊎ HasEmptyOperator (step.Parts p) s0 (here at w)
   failure_ended =
       elim (causes parts plain_accepting level w k (here at (left_of j)) failed_now) [
         | inl ended ↦ inl

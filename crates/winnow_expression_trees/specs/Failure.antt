@@ -6,8 +6,9 @@ use Rattle.winnow_expression.specs.Grammar.{Grammar}
 use Rattle.winnow_expression.specs.Operators.{fold_of, left_power, right_power}
 use Rattle.winnow_expression.specs.Units.{units_left}
 use Rattle.winnow_expression.specs.declared.combinator.operators.Infix.{Infix}
-use Rattle.winnow_expression_trees.specs.Keeps.{Binds, EdgeAbove, Keeps, Reaches}
-use Rattle.winnow_expression_trees.specs.Reading.{FirstStep, NextStep, Over, power_of}
+use Rattle.winnow_expression_trees.specs.Keeps.{Binds, LeftEdgeReaches, RespectsPrecedence}
+use Rattle.winnow_expression_trees.specs.Keeps.{RightEdgeBelow}
+use Rattle.winnow_expression_trees.specs.Reading.{IsTreeOver, OperandStep, OperatorStep, power_of}
 use Rattle.winnow_expression_trees.specs.Tree.{Tree, top_neither}
 use Rattle.winnow_expression_trees.specs.Value.{Value}
 use Rattle.winnow_expression.specs.declared.combinator.places.First.{First}
@@ -40,16 +41,16 @@ abbrev pub EndedBy : {S W T V F G H : Type 0} → Grammar S W T V F G H → S ×
     → Input T
     → Type 0
 EndedBy {S} {W} {T} {V} {F} {G} {H} g s0 start kind j =
-    ((k : Input T) × (t : S) × ReadsTo (FirstStep g s0) (NextStep g s0) start true k
+    ((k : Input T) × (t : S) × ReadsTo (OperandStep g s0) (OperatorStep g s0) start true k
     × g.first s0.0 k (Err kind) t j)
-    ⊎ ((k : Input T) × (t : W) × ReadsTo (FirstStep g s0) (NextStep g s0) start false k
+    ⊎ ((k : Input T) × (t : W) × ReadsTo (OperandStep g s0) (OperatorStep g s0) start false k
     × g.next s0.1 k (Err kind) t j)
 
 -- `TakesLeft m l p`: in an operand of the least power `m`, an operator of the left power `p` takes
 -- the left operand `l`. That respects precedence, its left edge reaches `m`, and `p` reaches `m`
 -- and no right power on its right edge.
 abbrev pub TakesLeft : {V F G H : Type 0} → ℤ → Tree V F G H → ℤ → Type 0
-TakesLeft m l p = Binds l × Reaches m l × (m ≤ℤ p) × EdgeAbove l p
+TakesLeft m l p = Binds l × LeftEdgeReaches m l × (m ≤ℤ p) × RightEdgeBelow l p
 
 -- An infix takes the left operand, which is not a neither of the infix's power.
 abbrev pub InfixTakes : {V F G H : Type 0} → ℤ → Tree V F G H → Infix H → Type 0
@@ -63,46 +64,52 @@ pub data StartsOperand {S W T V F G H : Type 0} (g : Grammar S W T V F G H) (s :
     (start : Input T) : ℤ → Input T → Type 0 where
   begins_whole : StartsOperand g s level start level start
   begins_prefix : (m p : ℤ) (i j : Input T) (f : F) → StartsOperand g s level start m i
-      → FirstStep g s i (prefix_read p f) j → StartsOperand g s level start p j
+      → OperandStep g s i (prefix_read p f) j → StartsOperand g s level start p j
   begins_infix : (m p : ℤ) (i j k : Input T) (o : Infix H) (l : Tree V F G H) (v : V)
-      → StartsOperand g s level start m i → Over (FirstStep g s) (NextStep g s) l i j → Value g l v
-      → InfixTakes m l o → NextStep g s j (infix_read o) k → p ≡ right_power o
+      → StartsOperand g s level start m i
+      → IsTreeOver (OperandStep g s) (OperatorStep g s) l i j → Value g l v
+      → InfixTakes m l o → OperatorStep g s j (infix_read o) k → p ≡ right_power o
       → StartsOperand g s level start p k
 
 -- The fold of an operator fails, for the values of its operands. The operator is one of the tree
 -- that respects precedence, as far as that is read. It is in an operand that begins there, it takes
 -- its left operand, and its right operand respects precedence at its right power.
-abbrev pub RejectedBy : {S W T V F G H : Type 0} → Grammar S W T V F G H → S × W → ℤ → Input T
+abbrev pub RejectedByPrecedence : {S W T V F G H : Type 0} → Grammar S W T V F G H → S × W → ℤ
+    → Input T
     → Kind
     → Input T → Type 0
-RejectedBy {S} {W} {T} {V} {F} {G} {H} g s0 level start kind j =
+RejectedByPrecedence {S} {W} {T} {V} {F} {G} {H} g s0 level start kind j =
     -- that of a prefix
     ((m : ℤ) × (i : Input T) × (k : Input T) × (n : Input T) × (p : ℤ) × (f : F)
     × (r : Tree V F G H) × (all : Bool) × (v : V) × StartsOperand g s0 level start m i
-    × FirstStep g s0 i (prefix_read p f) k × Over (FirstStep g s0) (NextStep g s0) r k n
-    × Keeps (NextStep g s0) p r n all × Value g r v × g.folding.before f n v (Err kind) j)
+    × OperandStep g s0 i (prefix_read p f) k
+    × IsTreeOver (OperandStep g s0) (OperatorStep g s0) r k n
+    × RespectsPrecedence (OperatorStep g s0) p r n all × Value g r v
+    × g.folding.before f n v (Err kind) j)
     -- that of a postfix
     ⊎ (((m : ℤ) × (i : Input T) × (k : Input T) × (n : Input T) × (p : ℤ) × (f : G)
     × (l : Tree V F G H) × (v : V) × StartsOperand g s0 level start m i
-    × Over (FirstStep g s0) (NextStep g s0) l i k × TakesLeft m l p
-    × NextStep g s0 k (Postfix p f) n × Value g l v × g.behind f n v (Err kind) j)
+    × IsTreeOver (OperandStep g s0) (OperatorStep g s0) l i k × TakesLeft m l p
+    × OperatorStep g s0 k (Postfix p f) n × Value g l v × g.behind f n v (Err kind) j)
     -- that of an infix
     ⊎ ((m : ℤ) × (i : Input T) × (k : Input T) × (n : Input T) × (z : Input T) × (o : Infix H)
     × (l : Tree V F G H) × (r : Tree V F G H) × (all : Bool) × (v : V) × (w : V)
-    × StartsOperand g s0 level start m i × Over (FirstStep g s0) (NextStep g s0) l i k
-    × InfixTakes m l o × NextStep g s0 k (infix_read o) n
-    × Over (FirstStep g s0) (NextStep g s0) r n z × Keeps (NextStep g s0) (right_power o) r z all
+    × StartsOperand g s0 level start m i × IsTreeOver (OperandStep g s0) (OperatorStep g s0) l i k
+    × InfixTakes m l o × OperatorStep g s0 k (infix_read o) n
+    × IsTreeOver (OperandStep g s0) (OperatorStep g s0) r n z
+    × RespectsPrecedence (OperatorStep g s0) (right_power o) r z all
     × Value g l v × Value g r w × g.folding.between (fold_of o) z v w (Err kind) j))
 
 -- An operator is read that consumes nothing: a prefix, which ends the reading, or another.
-abbrev pub Unmoved : {S W T V F G H : Type 0} → Grammar S W T V F G H → S × W → Input T → Type 0
-Unmoved {S} {W} {T} {V} {F} {G} {H} g s0 start =
+abbrev pub HasEmptyOperator : {S W T V F G H : Type 0} → Grammar S W T V F G H → S × W → Input T
+    → Type 0
+HasEmptyOperator {S} {W} {T} {V} {F} {G} {H} g s0 start =
     ((k : Input T) × (n : Input T) × (p : ℤ) × (f : F)
-    × ReadsTo (FirstStep g s0) (NextStep g s0) start true k
+    × ReadsTo (OperandStep g s0) (OperatorStep g s0) start true k
     × g.first s0.0 k (Ok (prefix_read p f)) s0.0 n
     × (units_left g.folding.units n ≡ units_left g.folding.units k))
     ⊎ ((k : Input T) × (n : Input T) × (x : Next G H) × (p : ℤ)
-    × ReadsTo (FirstStep g s0) (NextStep g s0) start false k × NextStep g s0 k x n
+    × ReadsTo (OperandStep g s0) (OperatorStep g s0) start false k × OperatorStep g s0 k x n
     × (power_of x ≡ Some p)
     × (units_left g.folding.units n ≡ units_left g.folding.units k))
 
@@ -110,4 +117,5 @@ Unmoved {S} {W} {T} {V} {F} {G} {H} g s0 start =
 abbrev pub FailsBy : {S W T V F G H : Type 0} → Grammar S W T V F G H → S × W → ℤ → Input T → Kind
     → Input T → Type 0
 FailsBy g s0 level start kind j =
-    EndedBy g s0 start kind j ⊎ (RejectedBy g s0 level start kind j ⊎ Unmoved g s0 start)
+    EndedBy g s0 start kind j
+    ⊎ (RejectedByPrecedence g s0 level start kind j ⊎ HasEmptyOperator g s0 start)

@@ -20,9 +20,9 @@ use Rattle.winnow_expression.specs.declared.combinator.places.Next.TheVariants.{
   Postfix as postfix_read,
 }
 use Rattle.winnow_expression.specs.declared.combinator.places.Next.TheVariants.{Infix as infix_read}
-use Rattle.winnow_expression_trees.specs.Keeps.{Keeps}
+use Rattle.winnow_expression_trees.specs.Keeps.{RespectsPrecedence}
 use Rattle.winnow_expression_trees.specs.Premises.{NotMemory}
-use Rattle.winnow_expression_trees.specs.Reading.{Over}
+use Rattle.winnow_expression_trees.specs.Reading.{IsTreeOver}
 use Rattle.winnow_expression_trees.specs.Tree.{Tree, leaf, before, behind, between}
 pub mod Grammar
 pub mod Laws
@@ -81,18 +81,18 @@ abbrev pub ItemsTree : {T V F G H : Type 0} → Items T V → Items T (Prefix F)
     → Items T (Postfix G) → Items T (Infix H) → ℤ → List T → Tree V F G H → List T → Bool
     → Type 0
 ItemsTree operand prefix postfix infix_ level i tree j all =
-    Over (FirstItems operand prefix) (NextItems postfix infix_) tree i j
-    × Keeps (NextItems postfix infix_) level tree j all
+    IsTreeOver (FirstItems operand prefix) (NextItems postfix infix_) tree i j
+    × RespectsPrecedence (NextItems postfix infix_) level tree j all
 
 -- The result of a fold: a value, or an error without one. It leaves the input unchanged.
-abbrev pub Gives : {T V : Type 0} → (V → Type 0) → Input T → Answer V → Input T → Type 0
-Gives {T} {V} given i answer j =
+abbrev pub FoldGives : {T V : Type 0} → (V → Type 0) → Input T → Answer V → Input T → Type 0
+FoldGives {T} {V} given i answer j =
     ((v : V) × given v × (answer ≡ Ok v) × (j ≡ i))
     ⊎ (((v : V) → given v → ⊥) × (answer ≡ Err backtrack) × (j ≡ i))
 
 -- at most one value is given
-abbrev pub GivesOne : {V : Type 0} → (V → Type 0) → Type 0
-GivesOne {V} given = (v w : V) → given v → given w → v ≡ w
+abbrev pub GivesAtMostOne : {V : Type 0} → (V → Type 0) → Type 0
+GivesAtMostOne {V} given = (v w : V) → given v → given w → v ≡ w
 
 -- The value of a tree, by the values of the folds. There is no value if a fold fails.
 abbrev pub HasValue : {V F G H : Type 0} → (F → V → V → Type 0) → (G → V → V → Type 0)

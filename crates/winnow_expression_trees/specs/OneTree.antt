@@ -5,10 +5,10 @@ use Rattle.streams.specs.Kind.{Kind}
 use Rattle.stream_errors.specs.Form.{Answer}
 use Rattle.winnow_expression.specs.Grammar.{Grammar}
 use Rattle.winnow_expression_trees.specs.Alike.{AlikeTree}
-use Rattle.winnow_expression_trees.specs.Failure.{FailsBy, RejectedBy}
-use Rattle.winnow_expression_trees.specs.Keeps.{Keeps}
+use Rattle.winnow_expression_trees.specs.Failure.{FailsBy, RejectedByPrecedence}
+use Rattle.winnow_expression_trees.specs.Keeps.{RespectsPrecedence}
 use Rattle.winnow_expression_trees.specs.Premises.{FoldAlike, FoldsAlike, NotMemory}
-use Rattle.winnow_expression_trees.specs.Reading.{FirstStep, NextStep, Over}
+use Rattle.winnow_expression_trees.specs.Reading.{IsTreeOver, OperandStep, OperatorStep}
 use Rattle.winnow_expression_trees.specs.Tree.{Tree}
 use Rattle.winnow_expression_trees.specs.Value.{Value}
 pub mod Alike
@@ -21,7 +21,8 @@ pub mod Views
 abbrev pub KeepsOver : {S W T V F G H : Type 0} → Grammar S W T V F G H → S × W → ℤ → Input T
     → Tree V F G H → Input T → Bool → Type 0
 KeepsOver g s level i r j all =
-    Over (FirstStep g s) (NextStep g s) r i j × Keeps (NextStep g s) level r j all
+    IsTreeOver (OperandStep g s) (OperatorStep g s) r i j
+    × RespectsPrecedence (OperatorStep g s) level r j all
 
 abbrev pub Alike : {S W T V F G H : Type 0} → Grammar S W T V F G H → (V → V → Type 0)
     → Tree V F G H
@@ -46,4 +47,4 @@ pub record IsTheOneTree {S W T V F G H : Type 0} (g : Grammar S W T V F G H)
   pub keeps : (v : V) → answer ≡ Ok v → (t.0 ≡ s.0) × (t.1 ≡ s.1)
   pub fails : (k : Kind) → answer ≡ Err k → NotMemory answer → FailsBy g s level i k j
   pub refuses : (k : Kind) → answer ≡ Err k → NotMemory answer → (r : Tree V F G H) (n : Input T)
-      (all : Bool) → KeepsOver g s level i r n all → RejectedBy g s level i k j
+      (all : Bool) → KeepsOver g s level i r n all → RejectedByPrecedence g s level i k j

@@ -8,7 +8,8 @@ ghost use Rattle.winnow_expression.specs.Grammar.{folding};
 ghost use Rattle.winnow_expression.specs.Parts.{PartsDo, did_grammar};
 ghost use Rattle.winnow_expression_trees.specs.Accepting.{AcceptingDo, AssertingDo, FoldAnswers};
 ghost use Rattle.winnow_expression_trees.specs.Alike.{AlikeInfix, AlikeTree};
-ghost use Rattle.winnow_expression_trees.specs.Failure.{EndedBy, RejectedBy, Unmoved};
+ghost use Rattle.winnow_expression_trees.specs.Failure.{EndedBy, HasEmptyOperator};
+ghost use Rattle.winnow_expression_trees.specs.Failure.{RejectedByPrecedence};
 ghost use Rattle.winnow_expression_trees.specs.OneTree.{IsTheOneTree, KeepsOver};
 ghost use Rattle.winnow_expression_trees.specs.Premises.{AlikePostfix, AlikePrefix, Decides};
 ghost use Rattle.winnow_expression_trees.specs.Premises.{NotMemory, Premises};
@@ -113,9 +114,9 @@ pub fn expression_is_unambiguous<
         (t : (P.State × Pre.State) × (Post.State × Pix.State) × ℤ) (j : Input I.Seen)
         → Ran I.reading (PartsDo I.reading P.does Pre.does Post.does Pix.does F.folds G.folds
         H.folds) E.form s i (Err k) t j → (k ≡ memory → ⊥)
-        → (RejectedBy (did_grammar I.reading E.form P.does Pre.does
+        → (RejectedByPrecedence (did_grammar I.reading E.form P.does Pre.does
         Post.does Pix.does F.folds G.folds H.folds) (s.0, s.1) s.2 i k j → ⊥)
-        → (Unmoved (did_grammar I.reading E.form P.does Pre.does
+        → (HasEmptyOperator (did_grammar I.reading E.form P.does Pre.does
         Post.does Pix.does F.folds G.folds H.folds) (s.0, s.1) i → ⊥)
         → EndedBy (did_grammar I.reading E.form P.does Pre.does
         Post.does Pix.does F.folds G.folds H.folds) (s.0, s.1) i k j }
@@ -278,7 +279,7 @@ pub fn assert_rules_leave_no_tree<
         H.folds) E.form s i (Err k) t j → (k ≡ memory → ⊥)
         → EndedBy (did_grammar I.reading E.form P.does Pre.does
         Post.does Pix.does F.folds G.folds H.folds) (s.0, s.1) i k j
-        ⊎ Unmoved (did_grammar I.reading E.form P.does Pre.does
+        ⊎ HasEmptyOperator (did_grammar I.reading E.form P.does Pre.does
         Post.does Pix.does F.folds G.folds H.folds) (s.0, s.1) i }
     ensures kind { (s : (P.State × Pre.State) × (Post.State × Pix.State) × ℤ)
         (i : Input I.Seen) (k : Kind)

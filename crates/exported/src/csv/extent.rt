@@ -1,7 +1,7 @@
 //! The end of a record of comma-separated values in partial input.
 
 ghost use Rattle.std.specs.Prelude.{◌≡◌, ◌≤◌, ◌⊎◌, ◌↔◌, ◌++◌, [], List, length, ℕ};
-ghost use Rattle.format_csv_records.specs.Extents.{IsOf};
+ghost use Rattle.format_csv_records.specs.Extents.{IsExtentOf};
 ghost use Rattle.format_csv_records.specs.declared.dialect.Dialect.{Dialect};
 ghost use Rattle.exported.specs.Code.{done, incomplete, invalid, invalid_dialect};
 ghost use Rattle.exported.specs.Csv.{HasDialect, HasNoSizes, IsDialect};
@@ -86,7 +86,7 @@ fn state_at(extent: RecordExtent) -> CsvRecordState
 
 /// Finds the end of a record of this dialect, as `exported_csv_record_extent` does.
 fn find_end(dialect: Dialect, state: &mut CsvRecordState, bytes: &[u8], out: &mut Record) -> u32
-    ensures told { IsOf dialect (record_extent_of state.old) bytes.now
+    ensures told { IsExtentOf dialect (record_extent_of state.old) bytes.now
         → TellsRecord dialect bytes.now result out.new state.new }
     ensures nowhere { (result ≡ invalid → ⊥) → out.new.error_offset ≡ 0 }
     ensures sizes { (result ≡ done → ⊥) → HasNoSizes out.new }
@@ -162,7 +162,7 @@ pub extern "C" fn exported_csv_record_extent(
     out: &mut Record,
 ) -> u32
     ensures told { (d : Dialect) → IsDialect dialect.now d
-        → IsOf d (record_extent_of state.old) bytes.now
+        → IsExtentOf d (record_extent_of state.old) bytes.now
         → TellsRecord d bytes.now result out.new state.new }
     ensures impossible { (result ≡ invalid_dialect) ↔ (HasDialect dialect.now → ⊥) }
     ensures kept { result ≡ invalid_dialect → state.new ≡ state.old }
@@ -191,5 +191,5 @@ pub fn calls_in_turn_are_of_their_bytes()
     ensures { (d : Dialect) (pieces : List (List ℕ)) (state : CsvRecordState)
         → RecordCalls d nothing [] pieces state
         → (more : List ℕ)
-        → IsOf d (record_extent_of state) (all_of pieces ++ more) }
+        → IsExtentOf d (record_extent_of state) (all_of pieces ++ more) }
 {}

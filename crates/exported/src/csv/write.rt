@@ -8,7 +8,7 @@ ghost use Rattle.exported.specs.Csv.{HasDialect, IsDialect};
 ghost use Rattle.exported.specs.CsvWrite.{IsLine, IsShort, ShowsLine, contents, line_end};
 ghost use Rattle.exported.specs.Output.{Puts};
 ghost use Rattle.format_csv_records.specs.Dialects.{IsPlain, doubled};
-ghost use Rattle.format_csv_records.specs.Written.{IsLast, IsWritten, Wrote};
+ghost use Rattle.format_csv_records.specs.Written.{IsLastWritten, IsWritten, WrittenFields};
 ghost use Rattle.format_csv_records.specs.declared.dialect.Dialect.{Dialect};
 
 use crate::code::{BUFFER_TOO_SMALL, DONE, INVALID, INVALID_DIALECT};
@@ -85,7 +85,7 @@ fn put_field(dialect: Dialect, field: &[u8], at: usize, buffer: &mut [u8]) -> us
 
 /// Writes fields, with a delimiter after each.
 fn put_others(dialect: Dialect, fields: &[Bytes], buffer: &mut [u8]) -> usize
-    ensures { (text : List ℕ) × Wrote dialect (contents fields.now) text
+    ensures { (text : List ℕ) × WrittenFields dialect (contents fields.now) text
         × Puts text 0 buffer.old result buffer.new }
 {
     let mut end = 0;
@@ -106,7 +106,7 @@ fn is_empty_record(others: &[Bytes], field: &[u8]) -> bool
 
 /// Writes the last field, after which no delimiter follows.
 fn put_last(dialect: Dialect, others: &[Bytes], field: &[u8], at: usize, buffer: &mut [u8]) -> usize
-    ensures { (text : List ℕ) × IsLast dialect (contents others.now) field.now text
+    ensures { (text : List ℕ) × IsLastWritten dialect (contents others.now) field.now text
         × Puts text at buffer.old result buffer.new }
 {
     if is_empty_record(others, field) {

@@ -4,7 +4,7 @@ ghost use Rattle.std.specs.Prelude.{◌≡◌, ◌⊎◌, [], List, ℕ};
 ghost use Rattle.std.specs.Str.{IsUtf8};
 ghost use Rattle.format_ini.specs.Documents.{IsDocument, IsRefused};
 ghost use Rattle.format_ini.specs.Lines.{Said};
-ghost use Rattle.format_ini.specs.Lookup.{HasNo};
+ghost use Rattle.format_ini.specs.Lookup.{HasNoPair};
 ghost use Rattle.format_ini.specs.declared.lines.Reason.{Reason};
 ghost use Rattle.exported.specs.Code.{done, end, invalid, invalid_utf8};
 ghost use Rattle.exported.specs.Ini.{TellsLookup, dialect_of, fault_number};
@@ -72,7 +72,7 @@ pub fn a_lookup_is_of_the_document()
     ensures missing { (dialect : ℕ) (bytes name key : List ℕ) (state : IniState) (out : IniEntry)
         → TellsLookup dialect bytes name key state end out
         → (said : List Said) × IsDocument (dialect_of dialect) bytes said
-        × HasNo name key [] said }
+        × HasNoPair name key [] said }
     ensures refuses { (dialect : ℕ) (bytes name key : List ℕ) (state : IniState) (out : IniEntry)
         → TellsLookup dialect bytes name key state invalid out
         → (why : Reason) × (out.error ≡ fault_number why)

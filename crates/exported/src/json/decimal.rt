@@ -2,7 +2,7 @@
 
 ghost use Rattle.std.specs.Prelude.{◌≡◌, ◌⊎◌};
 ghost use Rattle.format_json_extents.specs.Number.{IsNumber};
-ghost use Rattle.format_json_extents.specs.Texts.{NoneStands};
+ghost use Rattle.format_json_extents.specs.Texts.{NoMatchAtStart};
 ghost use Rattle.exported.specs.Code.{done, invalid, out_of_range};
 ghost use Rattle.exported.specs.JsonDecimal.{ShowsDecimal, ShowsNoDecimal, no_decimal};
 
@@ -52,7 +52,7 @@ const NO_DECIMAL: Decimal = Decimal {
 pub extern "C" fn exported_json_decimal(bytes: &[u8], out: &mut Decimal) -> u32
     ensures decimal { result ≡ done → ShowsDecimal bytes.now out.new }
     ensures range { result ≡ out_of_range → ShowsNoDecimal bytes.now }
-    ensures refused { result ≡ invalid → NoneStands IsNumber bytes.now }
+    ensures refused { result ≡ invalid → NoMatchAtStart IsNumber bytes.now }
     ensures none { (result ≡ done → ⊥) → out.new ≡ no_decimal }
     ensures codes { (result ≡ done) ⊎ ((result ≡ out_of_range) ⊎ (result ≡ invalid)) }
 {

@@ -1,7 +1,7 @@
 //! The ends of JSON values in input that arrives in chunks.
 
 ghost use Rattle.std.specs.Prelude.{◌≡◌, ◌≤◌, ◌⊎◌, ◌++◌, ℕ, List, [], length};
-ghost use Rattle.format_json_pieces.specs.Extents.{ExtentResult, IsNew, IsOf, WholeResult};
+ghost use Rattle.format_json_pieces.specs.Extents.{ExtentResult, IsExtentOf, IsNew, WholeResult};
 ghost use Rattle.format_json_pieces.specs.declared.begun.Mode.TheVariants as modes;
 ghost use Rattle.exported.specs.Code.{done, end, incomplete, invalid, too_deep};
 ghost use Rattle.exported.specs.JsonExtent.{IsToldBy, TellsBy, ValueCalls, figure_at};
@@ -39,7 +39,7 @@ fn part_of(number: usize) -> Part
         0 => Part::Plain,
         1 => Part::Escape,
         2 => Part::Unit,
-        3 => Part::BehindD,
+        3 => Part::AfterSurrogateD,
         4 => Part::Three,
         5 => Part::Two,
         6 => Part::One,
@@ -67,7 +67,7 @@ fn number_of_part(part: Part) -> usize
         Part::Plain => 0,
         Part::Escape => 1,
         Part::Unit => 2,
-        Part::BehindD => 3,
+        Part::AfterSurrogateD => 3,
         Part::Three => 4,
         Part::Two => 5,
         Part::One => 6,
@@ -286,13 +286,13 @@ pub extern "C" fn exported_json_extent(
     brackets: &mut [u8],
     out: &mut usize,
 ) -> u32
-    ensures told { is_complete ≡ 0 → IsOf (value_extent_of state.old) brackets.old bytes.now
+    ensures told { is_complete ≡ 0 → IsExtentOf (value_extent_of state.old) brackets.old bytes.now
         → TellsBy (ExtentResult (length brackets.old) bytes.now) incomplete result out.new }
     ensures whole { (is_complete ≡ 0 → ⊥)
-        → IsOf (value_extent_of state.old) brackets.old bytes.now
+        → IsExtentOf (value_extent_of state.old) brackets.old bytes.now
         → TellsBy (WholeResult (length brackets.old) bytes.now) end result out.new }
-    ensures kept { IsOf (value_extent_of state.old) brackets.old bytes.now → (more : List ℕ)
-        → IsOf (value_extent_of state.new) brackets.new (bytes.now ++ more) }
+    ensures kept { IsExtentOf (value_extent_of state.old) brackets.old bytes.now → (more : List ℕ)
+        → IsExtentOf (value_extent_of state.new) brackets.new (bytes.now ++ more) }
     ensures again { (result ≡ incomplete → ⊥) → state.new ≡ nothing }
     ensures none { (result ≡ incomplete) ⊎ (result ≡ end) → out.new ≡ 0 }
     ensures within { out.new ≤ length bytes.now }
@@ -321,5 +321,5 @@ pub extern "C" fn exported_json_extent(
 pub fn calls_in_turn_are_of_their_bytes()
     ensures { (brackets last : List ℕ) (pieces : List (List ℕ)) (state : JsonValueState)
         → ValueCalls (length brackets) (nothing, brackets) [] pieces (state, last)
-        → (more : List ℕ) → IsOf (value_extent_of state) last (all_of pieces ++ more) }
+        → (more : List ℕ) → IsExtentOf (value_extent_of state) last (all_of pieces ++ more) }
 {}

@@ -2,7 +2,7 @@
 
 ghost use Rattle.std.specs.Prelude.{◌≡◌, ◌⊎◌, pos};
 ghost use Rattle.format_json_extents.specs.Number.{IsNumber};
-ghost use Rattle.format_json_extents.specs.Texts.{NoneStands};
+ghost use Rattle.format_json_extents.specs.Texts.{NoMatchAtStart};
 ghost use Rattle.exported.specs.Code.{done, invalid, not_an_integer};
 ghost use Rattle.exported.specs.JsonInteger.{ShowsInteger, ShowsNatural, ShowsNoInteger};
 ghost use Rattle.exported.specs.JsonInteger.{ShowsNoNatural};
@@ -31,7 +31,7 @@ use format_json_extents::{integer, number};
 pub extern "C" fn exported_json_integer(bytes: &[u8], out: &mut i64) -> u32
     ensures integer { result ≡ done → ShowsInteger bytes.now out.new }
     ensures other { result ≡ not_an_integer → ShowsNoInteger bytes.now }
-    ensures refused { result ≡ invalid → NoneStands IsNumber bytes.now }
+    ensures refused { result ≡ invalid → NoMatchAtStart IsNumber bytes.now }
     ensures none { (result ≡ done → ⊥) → out.new ≡ pos 0 }
     ensures codes { (result ≡ done) ⊎ ((result ≡ not_an_integer) ⊎ (result ≡ invalid)) }
 {
@@ -69,7 +69,7 @@ pub extern "C" fn exported_json_integer(bytes: &[u8], out: &mut i64) -> u32
 pub extern "C" fn exported_json_natural(bytes: &[u8], out: &mut u64) -> u32
     ensures integer { result ≡ done → ShowsNatural bytes.now out.new }
     ensures other { result ≡ not_an_integer → ShowsNoNatural bytes.now }
-    ensures refused { result ≡ invalid → NoneStands IsNumber bytes.now }
+    ensures refused { result ≡ invalid → NoMatchAtStart IsNumber bytes.now }
     ensures none { (result ≡ done → ⊥) → out.new ≡ 0 }
     ensures codes { (result ≡ done) ⊎ ((result ≡ not_an_integer) ⊎ (result ≡ invalid)) }
 {

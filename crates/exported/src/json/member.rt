@@ -2,7 +2,7 @@
 
 ghost use Rattle.std.specs.Prelude.{◌≡◌, ◌<◌, ◌+◌, ◌⊎◌, ◌↔◌, List, ℕ, length};
 ghost use Rattle.format_json_extents.specs.Members.{IsSearchOf};
-ghost use Rattle.format_json_extents.specs.Names.{said};
+ghost use Rattle.format_json_extents.specs.Names.{name_text};
 ghost use Rattle.format_json_extents.specs.declared.members.Search.TheVariants as search;
 ghost use Rattle.exported.specs.Code.{done, end, invalid, max_depth_too_large, supported_depth};
 ghost use Rattle.exported.specs.JsonMember.{Searches, is_set};
@@ -62,11 +62,11 @@ pub extern "C" fn exported_json_member(
     out: &mut usize,
 ) -> u32
     ensures found { result ≡ done → (rest : List ℕ) × (out.new + length rest ≡ length bytes.now)
-        × IsSearchOf search.Found max_depth (said (is_set is_token) name.now) bytes.now rest }
+        × IsSearchOf search.Found max_depth (name_text (is_set is_token) name.now) bytes.now rest }
     ensures missing { result ≡ end
-        → Searches search.Missing max_depth (said (is_set is_token) name.now) bytes.now }
+        → Searches search.Missing max_depth (name_text (is_set is_token) name.now) bytes.now }
     ensures refused { result ≡ invalid
-        → Searches search.Invalid max_depth (said (is_set is_token) name.now) bytes.now }
+        → Searches search.Invalid max_depth (name_text (is_set is_token) name.now) bytes.now }
     ensures none { (result ≡ done → ⊥) → out.new ≡ 0 }
     ensures deep { (result ≡ max_depth_too_large) ↔ (supported_depth < max_depth) }
     ensures codes { (result ≡ done) ⊎ ((result ≡ end) ⊎ ((result ≡ invalid)

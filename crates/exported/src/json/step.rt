@@ -2,9 +2,9 @@
 
 ghost use Rattle.std.specs.Prelude.{◌≡◌, ◌⊎◌};
 ghost use Rattle.format_json_extents.specs.Steps.{IsToken};
-ghost use Rattle.format_json_extents.specs.Texts.{NoneStands, Then};
-ghost use Rattle.format_json_extents.specs.Value.{IsGap};
-ghost use Rattle.format_json_extents.specs.Walk.{IsLead};
+ghost use Rattle.format_json_extents.specs.Texts.{NoMatchAtStart, Then};
+ghost use Rattle.format_json_extents.specs.Value.{IsWhitespace};
+ghost use Rattle.format_json_extents.specs.Walk.{IsSeparator};
 ghost use Rattle.exported.specs.Code.{done, end, invalid};
 ghost use Rattle.exported.specs.Json.{no_item};
 ghost use Rattle.exported.specs.JsonStep.{ShowsStep, number_of_step};
@@ -73,9 +73,9 @@ fn number_of_step(step: Step) -> u32
 #[unsafe(no_mangle)]
 pub extern "C" fn exported_json_step(bytes: &[u8], out: &mut JsonItem) -> u32
     ensures step { result ≡ done → ShowsStep bytes.now out.new }
-    ensures end { result ≡ end → IsGap bytes.now }
-    ensures refused { result ≡ invalid → NoneStands (Then IsLead IsToken) bytes.now
-        × (IsGap bytes.now → ⊥) }
+    ensures end { result ≡ end → IsWhitespace bytes.now }
+    ensures refused { result ≡ invalid → NoMatchAtStart (Then IsSeparator IsToken) bytes.now
+        × (IsWhitespace bytes.now → ⊥) }
     ensures none { (result ≡ done → ⊥) → out.new ≡ no_item }
     ensures codes { (result ≡ done) ⊎ ((result ≡ end) ⊎ (result ≡ invalid)) }
 {

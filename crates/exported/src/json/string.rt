@@ -2,7 +2,7 @@
 
 ghost use Rattle.std.specs.Prelude.{◌≡◌, ◌<◌, ◌⊎◌, length};
 ghost use Rattle.format_json_extents.specs.Strings.{IsString};
-ghost use Rattle.format_json_extents.specs.Texts.{NoneStands};
+ghost use Rattle.format_json_extents.specs.Texts.{NoMatchAtStart};
 ghost use Rattle.exported.specs.Code.{buffer_too_small, done, invalid};
 ghost use Rattle.exported.specs.JsonString.{IsWritten, ShowsText, no_text};
 
@@ -56,7 +56,7 @@ pub extern "C" fn exported_json_string(bytes: &[u8], buffer: &mut [u8], out: &mu
     ensures text { result ≡ done → IsWritten bytes.now out.new buffer.old buffer.new }
     ensures small { result ≡ buffer_too_small
         → ShowsText bytes.now out.new × (length buffer.old < out.new.text) }
-    ensures refused { result ≡ invalid → NoneStands IsString bytes.now }
+    ensures refused { result ≡ invalid → NoMatchAtStart IsString bytes.now }
     ensures none { result ≡ invalid → out.new ≡ no_text }
     ensures codes { (result ≡ done) ⊎ ((result ≡ buffer_too_small) ⊎ (result ≡ invalid)) }
 {

@@ -4,7 +4,7 @@ ghost use Rattle.std.specs.Prelude.{◌≡◌, ◌++◌, [], List, ℕ};
 ghost use Rattle.exported.specs.Extent.{CallsInTurn, extent_of, nothing};
 ghost use Rattle.exported.specs.Turns.{all_of};
 ghost use Rattle.exported.specs.declared.resp.RespReplyState.{RespReplyState};
-ghost use Rattle.format_resp.specs.Extents.{IsOf};
+ghost use Rattle.format_resp.specs.Extents.{IsExtentOf};
 ghost use Rattle.format_resp.specs.declared.reply.Protocol.{Protocol};
 
 use crate::resp::RespReplyState;
@@ -70,5 +70,5 @@ pub(crate) fn state_at(extent: Extent) -> RespReplyState
 pub fn calls_in_turn_are_of_their_bytes()
     ensures { (protocol : Protocol) (pieces : List (List ℕ)) (state : RespReplyState)
         → CallsInTurn protocol nothing [] pieces state
-        → (more : List ℕ) → IsOf protocol (extent_of state) (all_of pieces ++ more) }
+        → (more : List ℕ) → IsExtentOf protocol (extent_of state) (all_of pieces ++ more) }
 {}

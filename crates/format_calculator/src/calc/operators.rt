@@ -1,6 +1,6 @@
 //! The operators, and their effect on operands.
 ghost use Rattle.std.specs.Prelude.{◌≡◌};
-ghost use Rattle.winnow_expression_trees.specs.Items.{Gives};
+ghost use Rattle.winnow_expression_trees.specs.Items.{FoldGives};
 ghost use Rattle.winnow_expression_trees.specs.Items.Premises.{gives_ends};
 ghost use Rattle.format_calculator.specs.Calculator.{mark_at, mark_value, pair_at, pair_value};
 ghost use Rattle.format_calculator.specs.Calculator.{sign_at};
@@ -74,7 +74,7 @@ pub(super) fn pair_of(c: char) -> Option<Infix<Pair>>
 }
 
 impl<I: Stream, E: ParserError<I>> FoldUnary<I, i64, E> for Sign {
-    ghost folds = { λ form f i v a j. Gives (sign_value f v) i a j };
+    ghost folds = { λ form f i v a j. FoldGives (sign_value f v) i a j };
 
     ghost leaves_ends = { λ form f i v a j r. gives_ends I.reading (sign_value f v) i j a r };
 
@@ -87,7 +87,7 @@ impl<I: Stream, E: ParserError<I>> FoldUnary<I, i64, E> for Sign {
 }
 
 impl<I: Stream, E: ParserError<I>> FoldUnary<I, i64, E> for Mark {
-    ghost folds = { λ form f i v a j. Gives (mark_value f v) i a j };
+    ghost folds = { λ form f i v a j. FoldGives (mark_value f v) i a j };
 
     ghost leaves_ends = { λ form f i v a j r. gives_ends I.reading (mark_value f v) i j a r };
 
@@ -102,7 +102,7 @@ impl<I: Stream, E: ParserError<I>> FoldUnary<I, i64, E> for Mark {
 }
 
 impl<I: Stream, E: ParserError<I>> FoldBinary<I, i64, E> for Pair {
-    ghost folds = { λ form f i v w a j. Gives (pair_value f v w) i a j };
+    ghost folds = { λ form f i v w a j. FoldGives (pair_value f v w) i a j };
 
     ghost leaves_ends = { λ form f i v w a j r. gives_ends I.reading (pair_value f v w) i j a r };
 

@@ -10,8 +10,9 @@ use Rattle.format_http.specs.Heads.Uris.{IsPathByte, IsSchemeByte, Path}
 use Rattle.format_http.specs.declared.heads.uris.Kind.{Kind}
 use Rattle.format_http.specs.declared.heads.uris.Kind.TheVariants as kind
 use Rattle.format_http.specs.declared.heads.uris.Place.{Place}
-use Rattle.format_http_chunked.proofs.Splits.{Splits, either, one, opens, then}
-use Rattle.format_http_chunked.proofs.Turns.{both_ways, goes_in, goes_out, left_only, right_only}
+use Rattle.format_http_chunked.proofs.Splits.{Splits, either, one, splits_then, star_unfolds}
+use Rattle.format_http_chunked.proofs.Turns.{either_iff_left, either_iff_right, iff_trans}
+use Rattle.format_http_chunked.proofs.Turns.{many_stops_at_byte, many_takes_byte}
 use Rattle.format_http_chunked.specs.Bodies.{IsHexDigit}
 use Rattle.format_http_chunked.specs.Words as words
 use Rattle.format_http_chunked.specs.Words.{Byte, Many, One, Star}
@@ -40,28 +41,29 @@ slash_is_path b e = inr (inr (inr e))
 
 encoded : (these : ℕ → Type 0) → Splits (Encoded these)
 encoded these = either (One these) (λ next. Byte 37 (One IsHexDigit (One IsHexDigit next)))
-    (one these) (then (Byte 37) (λ next. One IsHexDigit (One IsHexDigit next))
-    (one (λ b. b ≡ 37)) (then (One IsHexDigit) (One IsHexDigit) (one IsHexDigit) (one IsHexDigit)))
+    (one these) (splits_then (Byte 37) (λ next. One IsHexDigit (One IsHexDigit next))
+    (one (λ b. b ≡ 37))
+    (splits_then (One IsHexDigit) (One IsHexDigit) (one IsHexDigit) (one IsHexDigit)))
 
 module _ (these : ℕ → Type 0) (next : List ℕ → Type 0) (b : ℕ) (bytes : List ℕ) where
   starts : Star (Encoded these) next (b ∷ bytes)
       ↔ (next (b ∷ bytes) ⊎ Encoded these (Star (Encoded these) next) (b ∷ bytes))
-  starts = opens (Encoded these) (encoded these) next (b ∷ bytes)
+  starts = star_unfolds (Encoded these) (encoded these) next (b ∷ bytes)
 
   pub encoded_plain : these b → (b ≡ 37 → ⊥) → (next (b ∷ bytes) → ⊥)
       → Star (Encoded these) next (b ∷ bytes) ↔ Star (Encoded these) next bytes
-  encoded_plain is plain none = both_ways starts (right_only none
-      (left_only (λ x. x.1, λ x. (is, x)) (λ x. plain x.0)))
+  encoded_plain is plain none = iff_trans starts (either_iff_right none
+      (either_iff_left (λ x. x.1, λ x. (is, x)) (λ x. plain x.0)))
 
   pub encoded_percent : (these b → ⊥) → b ≡ 37 → (next (b ∷ bytes) → ⊥)
       → Star (Encoded these) next (b ∷ bytes)
       ↔ One IsHexDigit (One IsHexDigit (Star (Encoded these) next)) bytes
-  encoded_percent not e none = both_ways starts (right_only none
-      (right_only (λ x. not x.0) (λ x. x.1, λ x. (e, x))))
+  encoded_percent not e none = iff_trans starts (either_iff_right none
+      (either_iff_right (λ x. not x.0) (λ x. x.1, λ x. (e, x))))
 
   pub encoded_out : (these b → ⊥) → (b ≡ 37 → ⊥)
       → Star (Encoded these) next (b ∷ bytes) ↔ next (b ∷ bytes)
-  encoded_out not plain = both_ways starts (left_only (λ x. x, λ x. x) none)
+  encoded_out not plain = iff_trans starts (either_iff_left (λ x. x, λ x. x) none)
     where
       none : Encoded these (Star (Encoded these) next) (b ∷ bytes) → ⊥
       none (inl x) = not x.0
@@ -88,7 +90,7 @@ module _ (b : ℕ) (bytes : List ℕ) where
   after_port_path : (of : Kind) → StartsPath of b → AfterPort of (b ∷ bytes) ↔ Path bytes
   after_port_path kind.Host s = absurd s
   after_port_path kind.Authority s = absurd s
-  after_port_path kind.Absolute s = right_only never (λ x. x.1, λ x. (s, x))
+  after_port_path kind.Absolute s = either_iff_right never (λ x. x.1, λ x. (s, x))
 
   after_port_none : (of : Kind) → (StartsPath of b → ⊥) → AfterPort of (b ∷ bytes) → ⊥
   after_port_none kind.Host none x = never x
@@ -111,26 +113,26 @@ module _ (b : ℕ) (bytes : List ℕ) where
 
   pub port_in : (of : Kind) → IsDigit b
       → Many IsDigit (AfterPort of) (b ∷ bytes) ↔ Many IsDigit (AfterPort of) bytes
-  port_in of is = goes_in IsDigit (AfterPort of) b bytes is
+  port_in of is = many_takes_byte IsDigit (AfterPort of) b bytes is
       (after_port_none of (digit_no_start of is))
 
   pub port_path : (of : Kind) → (IsDigit b → ⊥) → StartsPath of b
       → Many IsDigit (AfterPort of) (b ∷ bytes) ↔ Path bytes
   port_path of not s =
-      both_ways (goes_out IsDigit (AfterPort of) b bytes not) (after_port_path of s)
+      iff_trans (many_stops_at_byte IsDigit (AfterPort of) b bytes not) (after_port_path of s)
 
   pub port_none : (of : Kind) → (IsDigit b → ⊥) → (StartsPath of b → ⊥)
       → Many IsDigit (AfterPort of) (b ∷ bytes) → ⊥
   port_none of not none x =
-      after_port_none of none ((goes_out IsDigit (AfterPort of) b bytes not).0 x)
+      after_port_none of none ((many_stops_at_byte IsDigit (AfterPort of) b bytes not).0 x)
 
   -- ---- after a host
 
   pub host_colon : (of : Kind) → b ≡ 58
       → AfterHost of (b ∷ bytes) ↔ Many IsDigit (AfterPort of) bytes
-  host_colon kind.Host e = right_only never (λ x. x.1, λ x. (e, x))
+  host_colon kind.Host e = either_iff_right never (λ x. x.1, λ x. (e, x))
   host_colon kind.Authority e = (λ x. x.1, λ x. (e, x))
-  host_colon kind.Absolute e = right_only
+  host_colon kind.Absolute e = either_iff_right
       (after_port_none kind.Absolute (colon_no_start kind.Absolute e)) (λ x. x.1, λ x. (e, x))
 
   pub host_path : (of : Kind) → (b ≡ 58 → ⊥) → StartsPath of b
@@ -138,7 +140,7 @@ module _ (b : ℕ) (bytes : List ℕ) where
   host_path kind.Host colon s = absurd s
   host_path kind.Authority colon s = absurd s
   host_path kind.Absolute colon s =
-      left_only (after_port_path kind.Absolute s) (λ x. colon x.0)
+      either_iff_left (after_port_path kind.Absolute s) (λ x. colon x.0)
 
   pub host_none : (of : Kind) → (b ≡ 58 → ⊥) → (StartsPath of b → ⊥)
       → AfterHost of (b ∷ bytes) → ⊥
@@ -170,23 +172,24 @@ module _ (b : ℕ) (bytes : List ℕ) where
 
   pub start_bracket : (of : Kind) → b ≡ 91 → Host (AfterHost of) (b ∷ bytes)
       ↔ words.Some IsAddressByte (Byte 93 (AfterHost of)) bytes
-  start_bracket of e = left_only (λ x. x.1, λ x. (e, x)) (λ x. host_none of
+  start_bracket of e = either_iff_left (λ x. x.1, λ x. (e, x)) (λ x. host_none of
       (λ d. omega (arith, d, e)) (no_start of (λ d. omega (arith, d, e)) (λ d. omega (arith, d, e)))
       ((name_out of (λ is. (name_plain b is).4 e) (λ d. omega (arith, d, e))).0 x))
 
   pub start_name : (of : Kind) → (b ≡ 91 → ⊥) → Host (AfterHost of) (b ∷ bytes)
       ↔ Star (Encoded IsNameByte) (AfterHost of) (b ∷ bytes)
-  start_name of not = right_only (λ x. not x.0) (λ x. x, λ x. x)
+  start_name of not = either_iff_right (λ x. not x.0) (λ x. x, λ x. x)
 
   pub address_in : (of : Kind) → IsAddressByte b
       → Many IsAddressByte (Byte 93 (AfterHost of)) (b ∷ bytes)
       ↔ Many IsAddressByte (Byte 93 (AfterHost of)) bytes
-  address_in of is = goes_in IsAddressByte (Byte 93 (AfterHost of)) b bytes is
+  address_in of is = many_takes_byte IsAddressByte (Byte 93 (AfterHost of)) b bytes is
       (λ x. address_plain b is x.0)
 
   pub address_out : (of : Kind) → (IsAddressByte b → ⊥) → b ≡ 93
       → Many IsAddressByte (Byte 93 (AfterHost of)) (b ∷ bytes) ↔ AfterHost of bytes
-  address_out of not e = both_ways (goes_out IsAddressByte (Byte 93 (AfterHost of)) b bytes not)
+  address_out of not e =
+      iff_trans (many_stops_at_byte IsAddressByte (Byte 93 (AfterHost of)) b bytes not)
       (λ x. x.1, λ x. (e, x))
 
   -- ---- before a host
@@ -194,12 +197,13 @@ module _ (b : ℕ) (bytes : List ℕ) where
   module _ (host : List ℕ → Type 0) where
     pub scheme_in : IsSchemeByte b → Many IsSchemeByte (Byte 58 (Hierarchy host)) (b ∷ bytes)
         ↔ Many IsSchemeByte (Byte 58 (Hierarchy host)) bytes
-    scheme_in is = goes_in IsSchemeByte (Byte 58 (Hierarchy host)) b bytes is
+    scheme_in is = many_takes_byte IsSchemeByte (Byte 58 (Hierarchy host)) b bytes is
         (λ x. scheme_plain b is x.0)
 
     pub scheme_out : (IsSchemeByte b → ⊥) → b ≡ 58
         → Many IsSchemeByte (Byte 58 (Hierarchy host)) (b ∷ bytes) ↔ Hierarchy host bytes
-    scheme_out not e = both_ways (goes_out IsSchemeByte (Byte 58 (Hierarchy host)) b bytes not)
+    scheme_out not e =
+        iff_trans (many_stops_at_byte IsSchemeByte (Byte 58 (Hierarchy host)) b bytes not)
         (λ x. x.1, λ x. (e, x))
 
     pub colon_slash : b ≡ 47 → Hierarchy host (b ∷ bytes)
@@ -226,12 +230,12 @@ module _ (b : ℕ) (bytes : List ℕ) where
     pub slash_slash : b ≡ 47
         → (Byte 47 host (b ∷ bytes) ⊎ (BeginsWithoutSlash (b ∷ bytes) × Path (b ∷ bytes)))
         ↔ host bytes
-    slash_slash e = left_only (λ x. x.1, λ x. (e, x)) (λ x. x.0 e)
+    slash_slash e = either_iff_left (λ x. x.1, λ x. (e, x)) (λ x. x.0 e)
 
     pub slash_path : (b ≡ 47 → ⊥)
         → (Byte 47 host (b ∷ bytes) ⊎ (BeginsWithoutSlash (b ∷ bytes) × Path (b ∷ bytes)))
         ↔ Path (b ∷ bytes)
-    slash_path not = right_only (λ x. not x.0) (λ x. x.1, λ x. (not, x))
+    slash_path not = either_iff_right (λ x. not x.0) (λ x. x.1, λ x. (not, x))
 
 -- ---- the end
 
@@ -244,7 +248,7 @@ name_end of = (λ x. (zero, x), back)
     back (suc n, inr x) = absurd x
 
 pub start_end : (of : Kind) → AfterHost of [] ↔ Host (AfterHost of) []
-start_end of = both_ways (name_end of) (λ x. inr x, back)
+start_end of = iff_trans (name_end of) (λ x. inr x, back)
   where
     back : Host (AfterHost of) [] → Star (Encoded IsNameByte) (AfterHost of) []
     back (inl x) = absurd x
@@ -256,7 +260,7 @@ start_end of = both_ways (name_end of) (λ x. inr x, back)
 pub step_by : (of : Kind) (at other : Place) (b : ℕ) (next : Option Place)
     → ((bytes : List ℕ) → IsDue of at (b ∷ bytes) ↔ IsDue of other (b ∷ bytes))
     → IsStep of other b next → IsStep of at b next
-step_by of at other b (Some next) same is = λ bytes. both_ways (same bytes) (is bytes)
+step_by of at other b (Some next) same is = λ bytes. iff_trans (same bytes) (is bytes)
 step_by of at other b None same is = λ bytes x. is bytes ((same bytes).0 x)
 
 pub step_in : (of : Kind) {at other : Place} → at ≡ other → (b : ℕ) (next : Option Place)

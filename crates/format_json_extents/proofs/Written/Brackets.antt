@@ -6,11 +6,12 @@ use Rattle.std.specs.declared.vec.Vec.{Vec}
 use Rattle.std.proofs.lemmas.List.{append-nil}
 use Rattle.std.proofs.lemmas.Str.{length-le-encodes}
 use Rattle.format_json_extents.proofs.Characters.{Spelling, first_char}
-use Rattle.format_json_extents.proofs.Matching.{joined, one, this_then}
+use Rattle.format_json_extents.proofs.Matching.{given_byte_then_is_cons, one_byte_text}
+use Rattle.format_json_extents.proofs.Matching.{then_of_parts}
 use Rattle.format_json_extents.proofs.Written.{Encoded, Fits, Written, encoded, fit_parts}
 use Rattle.format_json_extents.proofs.Written.{one_written, run_written, then_written}
-use Rattle.format_json_extents.specs.Texts.{Either, IsByte, List_of, Then, before, last}
-use Rattle.format_json_extents.specs.Value.{IsGap, IsSpace}
+use Rattle.format_json_extents.specs.Texts.{CommaSeparated, Either, IsByte, Then, before, last}
+use Rattle.format_json_extents.specs.Value.{IsWhitespace, IsWhitespaceByte}
 use Rattle.format_json_texts.specs.Values.{GapText, Mark}
 use Rattle.format_parts.specs.Words.{Between, One, Slice, pair}
 use Rattle.stream_sets.specs.AsChar.{IsMultispace}
@@ -19,14 +20,15 @@ use denote.RawPtr.{null_ptr}
 
 -- ---- whitespace
 
-pub gap_written : {A : Type 0} → Written A IsGap GapText
+pub gap_written : {A : Type 0} → Written A IsWhitespace GapText
 gap_written =
-    run_written IsSpace IsMultispace (λ b is. grind (arith, is)) (λ c is. grind (arith, is))
+    run_written IsWhitespaceByte IsMultispace (λ b is. grind (arith, is))
+    (λ c is. grind (arith, is))
     (λ c is. grind (arith, is))
 
 -- a byte, and whitespace after it
 abbrev pub IsMarked : ℕ → List ℕ → Type 0
-IsMarked c = Then (IsByte (λ b. b ≡ c)) IsGap
+IsMarked c = Then (IsByte (λ b. b ≡ c)) IsWhitespace
 
 pub mark_written : {A : Type 0} (c : ℕ) → c < 128 → Written A (IsMarked c) (Mark c)
 mark_written c low = then_written pair (one_written c low) gap_written
@@ -44,30 +46,30 @@ listed_more gaps xs gap ys zs second e f g h = simp (e, f, g, h, append_assoc)
 
 -- An item is whitespace and then `B`, which `text` encodes.
 module _ {O A : Type 0} {I B : List ℕ → Type 0} {text : Text ℕ O}
-    (there : (cs : List ℕ) → I cs → Then IsGap B cs)
-    (back : (cs : List ℕ) → Then IsGap B cs → I cs) (body : Written A B text) where
+    (there : (cs : List ℕ) → I cs → Then IsWhitespace B cs)
+    (back : (cs : List ℕ) → Then IsWhitespace B cs → I cs) (body : Written A B text) where
   abbrev Others : List O → List ℕ → Type 0
   Others = EachText (Both (λ d o. o) (Mark 44) text)
 
   -- ---- with commas between them
 
-  list_of : (e : Spelling) (gap : List ℕ) → IsGap gap → (o : O) (xs : List ℕ) → text o xs
-      → (os : List O) (ys : List ℕ) → Others os ys → List_of I (gap ++ (e.on xs ++ e.on ys))
+  list_of : (e : Spelling) (gap : List ℕ) → IsWhitespace gap → (o : O) (xs : List ℕ) → text o xs
+      → (os : List O) (ys : List ℕ) → Others os ys → CommaSeparated I (gap ++ (e.on xs ++ e.on ys))
   unfolding EachText Both
   list_of e gap white o xs x [] ys f =
       let inside = e.on xs ++ e.on ys in
       last (gap ++ inside) (back (gap ++ inside)
-      (joined gap (e.on xs) white (body.set e o xs x)
+      (then_of_parts gap (e.on xs) white (body.set e o xs x)
       (ap (λ l. gap ++ (e.on xs ++ l)) (ap e.on f ∙ e.nothing)
       ∙ ap (λ l. gap ++ l) (append-nil (e.on xs)))))
   list_of e gap white o xs x (p ∷ os) ys (zs, ws, (d, q, ms, bs, m, b, f, out), more, g) =
       let mark = (mark_written {A = A} 44 (omega arith)).set e d ms m in
       let parts : e.on ys ≡ 44 ∷ (mark.second ++ (e.on bs ++ e.on ws)) =
       ap e.on g ∙ e.joins zs ws ∙ ap (λ l. l ++ e.on ws) (ap e.on f ∙ e.joins ms bs
-      ∙ ap (λ l. l ++ e.on bs) (this_then 44 mark))
+      ∙ ap (λ l. l ++ e.on bs) (given_byte_then_is_cons 44 mark))
       ∙ ap (λ l. 44 ∷ l) (append_assoc mark.second (e.on bs) (e.on ws)) in
       before (gap ++ e.on xs) (mark.second ++ (e.on bs ++ e.on ws)) (gap ++ (e.on xs ++ e.on ys))
-      (back (gap ++ e.on xs) (joined gap (e.on xs) white (body.set e o xs x) refl))
+      (back (gap ++ e.on xs) (then_of_parts gap (e.on xs) white (body.set e o xs x) refl))
       (list_of e mark.second mark.is_second q bs b os ws more)
       (ap (λ l. gap ++ (e.on xs ++ l)) parts
       ∙ sym (append_assoc gap (e.on xs) (44 ∷ (mark.second ++ (e.on bs ++ e.on ws)))))
@@ -88,10 +90,10 @@ module _ {O A : Type 0} {I B : List ℕ → Type 0} {text : Text ℕ O}
     rest_of : encode_utf8_all second ≡ rest
     size : length os ≤ length ys
 
-  item_written : Written A (Then IsGap B) (Both pair GapText text)
+  item_written : Written A (Then IsWhitespace B) (Both pair GapText text)
   item_written = then_written pair gap_written body
 
-  listed : (cs front rest : List ℕ) → Fits A cs → List_of I front
+  listed : (cs front rest : List ℕ) → Fits A cs → CommaSeparated I front
       → encode_utf8_all cs ≡ front ++ rest → Listed cs rest
   unfolding EachText Both
   listed cs _ rest fits (last front is) f =
@@ -158,8 +160,8 @@ module _ {O A : Type 0} {I B : List ℕ → Type 0} {text : Text ℕ O}
     abbrev Bracketed : List ℕ → Type 0
     Bracketed =
         Then (IsByte (λ b. b ≡ opens))
-        (Either (Then IsGap (IsByte (λ b. b ≡ closes)))
-        (Then (List_of I) (IsByte (λ b. b ≡ closes))))
+        (Either (Then IsWhitespace (IsByte (λ b. b ≡ closes)))
+        (Then (CommaSeparated I) (IsByte (λ b. b ≡ closes))))
 
     abbrev InBrackets : Vec O A → List ℕ → Type 0
     InBrackets = Between (Mark opens) (InList (PartedText (Mark 44) text)) (One closes)
@@ -178,19 +180,19 @@ module _ {O A : Type 0} {I B : List ℕ → Type 0} {text : Text ℕ O}
 
         starts : (inside : List ℕ) → e.on ys ≡ inside → e.on cs ≡ opens ∷ (mark.second ++ inside)
         starts inside f =
-            ap e.on e1 ∙ e.joins xs ys ∙ ap (λ l. l ++ e.on ys) (this_then opens mark)
+            ap e.on e1 ∙ e.joins xs ys ∙ ap (λ l. l ++ e.on ys) (given_byte_then_is_cons opens mark)
             ∙ ap (λ l. opens ∷ (mark.second ++ l)) f
 
         by : (os : List O) (zs : List ℕ) → PartedText (Mark 44) text os zs → ys ≡ zs ++ ws
             → Bracketed (e.on cs)
         by [] zs y f =
-            joined (opens ∷ []) (mark.second ++ e.on ws) (one refl refl)
-            (inl (joined mark.second (e.on ws) mark.is_second end refl))
+            then_of_parts (opens ∷ []) (mark.second ++ e.on ws) (one_byte_text refl refl)
+            (inl (then_of_parts mark.second (e.on ws) mark.is_second end refl))
             (starts (e.on ws) (ap e.on (f ∙ ap (λ l. l ++ ws) y)))
         by (o ∷ os) zs (vs, bs, a, more, g) f =
             let list = mark.second ++ (e.on vs ++ e.on bs) in
-            joined (opens ∷ []) (list ++ e.on ws) (one refl refl)
-            (inr (joined list (e.on ws)
+            then_of_parts (opens ∷ []) (list ++ e.on ws) (one_byte_text refl refl)
+            (inr (then_of_parts list (e.on ws)
             (list_of e mark.second mark.is_second o vs a os bs more) end refl))
             (starts ((e.on vs ++ e.on bs) ++ e.on ws)
             (ap e.on f ∙ e.joins zs ws ∙ ap (λ l. l ++ e.on ws) (ap e.on g ∙ e.joins vs bs))
@@ -236,7 +238,7 @@ module _ {O A : Type 0} {I B : List ℕ → Type 0} {text : Text ℕ O}
     unfolding PartedText Both
     bracketed_value cs front rest fits is f =
         let (es, g, h) = first_char cs (is.second ++ rest) opens opens_low
-        (f ∙ ap (λ l. l ++ rest) (this_then opens is)) in
+        (f ∙ ap (λ l. l ++ rest) (given_byte_then_is_cons opens is)) in
         let more = (fit_parts cs (opens ∷ []) es g fits).1 in
         elim is.is_second [
           | inl none ↦

@@ -5,13 +5,15 @@ use Rattle.std.proofs.Math.Utf8.{low_scalar}
 use Rattle.std.specs.Char.{IsScalar, encode_utf8}
 use Rattle.std.proofs.lemmas.Bool.Decides.{nat_tests}
 use Rattle.std.proofs.lemmas.Str.{len_utf8_ascii, len_utf8_bounds, length-encode}
-use Rattle.format_json_extents.proofs.Matching.{joined, one, this_then}
-use Rattle.format_json_extents.proofs.Written.Units.{IsHigh, IsLow, NoSurrogate, high_ranges}
-use Rattle.format_json_extents.proofs.Written.Units.{low_ranges, only_ranges, unit_set, unit_size}
+use Rattle.format_json_extents.proofs.Matching.{given_byte_then_is_cons, one_byte_text}
+use Rattle.format_json_extents.proofs.Matching.{then_of_parts}
+use Rattle.format_json_extents.proofs.Written.Units.{IsHighSurrogate, IsLowSurrogate, NoSurrogate}
+use Rattle.format_json_extents.proofs.Written.Units.{high_surrogate_ranges, low_surrogate_ranges}
+use Rattle.format_json_extents.proofs.Written.Units.{non_surrogate_ranges, unit_set, unit_size}
 use Rattle.format_json_extents.proofs.Written.Units.{unit_value}
-use Rattle.format_json_extents.specs.Strings.{BeginOnly, IsCharacter, IsEscape}
-use Rattle.format_json_extents.specs.Strings.{IsEscaped, IsPair, IsUnit}
-use Rattle.format_json_texts.specs.Strings.{ArePair, StandsFor, UnicodeText}
+use Rattle.format_json_extents.specs.Strings.{BeginNonSurrogate, IsCharacterCode, IsCodeUnit}
+use Rattle.format_json_extents.specs.Strings.{IsEscape, IsEscaped, IsSurrogatePair}
+use Rattle.format_json_texts.specs.Strings.{AreSurrogatePair, StandsFor, UnicodeText}
 use Rattle.format_parts.specs.Hexadecimal.{IsAlone, UnitText}
 use Rattle.format_parts.specs.Words.{For, One, Whichever, latter, pair}
 use Rattle.grammars.specs.Texts.{BothText as Both, EitherText, MadeText, Spelled, Text}
@@ -42,22 +44,22 @@ pub free_scalar : (u : ℕ) → NoSurrogate u → IsScalar u
 free_scalar u (inl less) = low_scalar u less
 free_scalar u (inr more) = high_scalar u more.0 (omega (arith, more))
 
-only_set : (c : ℕ) (cs : List ℕ) → For IsAlone UnitText c cs → IsUnit BeginOnly cs
+only_set : (c : ℕ) (cs : List ℕ) → For IsAlone UnitText c cs → IsCodeUnit BeginNonSurrogate cs
 unfolding MadeText
-only_set c cs (u, x, (e, is)) = unit_set only_ranges cs u is x
+only_set c cs (u, x, (e, is)) = unit_set non_surrogate_ranges cs u is x
 
-only_value : (cs : List ℕ) → IsUnit BeginOnly cs → Means (For IsAlone UnitText) cs
+only_value : (cs : List ℕ) → IsCodeUnit BeginNonSurrogate cs → Means (For IsAlone UnitText) cs
 unfolding MadeText
 only_value cs is =
-    let (u, x, free) = unit_value only_ranges cs is in
+    let (u, x, free) = unit_value non_surrogate_ranges cs is in
     means_long (For IsAlone UnitText) cs u (u, x, (refl, free)) (free_scalar u free)
     (omega (arith, unit_size cs is))
 
 abbrev pub PairText : Text ℕ ℕ
 PairText =
-    For ArePair (Both pair UnitText (Both latter (Both pair (One 92) (One 117)) UnitText))
+    For AreSurrogatePair (Both pair UnitText (Both latter (Both pair (One 92) (One 117)) UnitText))
 
-pair_set : (c : ℕ) (cs : List ℕ) → PairText c cs → IsPair cs
+pair_set : (c : ℕ) (cs : List ℕ) → PairText c cs → IsSurrogatePair cs
 unfolding MadeText Both Spelled
 pair_set c cs (
   p,
@@ -84,15 +86,15 @@ pair_set c cs (
 ) =
     let high : p.0 ≡ u = ap (λ (q : ℕ × ℕ). q.0) ox in
     let low : p.1 ≡ v2 = ap (λ (q : ℕ × ℕ). q.1) ox ∙ oy in
-    joined xs ys
-    (unit_set high_ranges xs u (omega (arith, are, high), omega (arith, are, high)) x)
-    (joined ss (ls ++ zs) (one refl fs)
-    (joined ls zs (one refl fl)
-    (unit_set low_ranges zs v2 (omega (arith, are, low), omega (arith, are, low)) z) refl)
+    then_of_parts xs ys
+    (unit_set high_surrogate_ranges xs u (omega (arith, are, high), omega (arith, are, high)) x)
+    (then_of_parts ss (ls ++ zs) (one_byte_text refl fs)
+    (then_of_parts ls zs (one_byte_text refl fl)
+    (unit_set low_surrogate_ranges zs v2 (omega (arith, are, low), omega (arith, are, low)) z) refl)
     (ey ∙ ap (λ l. l ++ zs) em ∙ append_assoc ss ls zs)) ex
 
 pub pair_text : (c u v : ℕ) (xs ys cs : List ℕ) → UnitText u xs → UnitText v ys
-    → cs ≡ xs ++ 92 ∷ 117 ∷ ys → IsHigh u → IsLow v
+    → cs ≡ xs ++ 92 ∷ 117 ∷ ys → IsHighSurrogate u → IsLowSurrogate v
     → c ≡ 65536 + (u - 55296) * 1024 + (v - 56320) → PairText c cs
 unfolding MadeText Both Spelled
 pair_text c u v xs ys cs x y e high low same = (
@@ -119,17 +121,17 @@ pair_text c u v xs ys cs x y e high low same = (
   (high.0, high.1, low.0, low.1, same),
 )
 
-pub pair_joins : (cs : List ℕ) → (is : IsPair cs)
+pub pair_joins : (cs : List ℕ) → (is : IsSurrogatePair cs)
     → cs ≡ is.first ++ 92 ∷ 117 ∷ is.is_second.is_second.second
 pair_joins cs is =
-    is.joins ∙ ap (λ l. is.first ++ l) (this_then 92 is.is_second
-    ∙ ap (λ l. 92 ∷ l) (this_then 117 is.is_second.is_second))
+    is.joins ∙ ap (λ l. is.first ++ l) (given_byte_then_is_cons 92 is.is_second
+    ∙ ap (λ l. 92 ∷ l) (given_byte_then_is_cons 117 is.is_second.is_second))
 
-pair_value : (cs : List ℕ) → IsPair cs → Means PairText cs
+pair_value : (cs : List ℕ) → IsSurrogatePair cs → Means PairText cs
 pair_value cs is =
     let letter = is.is_second.is_second in
-    let (u, x, high) = unit_value high_ranges is.first is.is_first in
-    let (v, y, low) = unit_value low_ranges letter.second letter.is_second in
+    let (u, x, high) = unit_value high_surrogate_ranges is.first is.is_first in
+    let (v, y, low) = unit_value low_surrogate_ranges letter.second letter.is_second in
     let c = 65536 + (u - 55296) * 1024 + (v - 56320) in
     means_long PairText cs c
     (pair_text c u v is.first letter.second cs x y (pair_joins cs is) high low refl)
@@ -150,12 +152,12 @@ means_to text other cs to m = record {
   size = m.size;
 }
 
-character_set : (c : ℕ) (cs : List ℕ) → UnicodeText c cs → IsCharacter cs
+character_set : (c : ℕ) (cs : List ℕ) → UnicodeText c cs → IsCharacterCode cs
 unfolding EitherText
 character_set c cs (inl x) = inl (only_set c cs x)
 character_set c cs (inr x) = inr (pair_set c cs x)
 
-character_value : (cs : List ℕ) → IsCharacter cs → Means UnicodeText cs
+character_value : (cs : List ℕ) → IsCharacterCode cs → Means UnicodeText cs
 unfolding EitherText
 character_value cs (inl is) =
     means_to (For IsAlone UnitText) UnicodeText cs (λ c x. inl x) (only_value cs is)
@@ -180,9 +182,9 @@ EscapedText = EitherText (For StandsFor Whichever) (Both latter (One 117) Unicod
 
 pub escape_set : (c : ℕ) (cs : List ℕ) → EscapedText c cs → IsEscape cs
 unfolding EitherText MadeText Whichever Both Spelled
-escape_set c cs (inl (b, e, is)) = inl (one (is_escaped b c is) e)
+escape_set c cs (inl (b, e, is)) = inl (one_byte_text (is_escaped b c is) e)
 escape_set c cs (inr (u, d, xs, ys, (eu, fu), x, e, out)) =
-    inr (joined xs ys (one refl fu) (character_set d ys x) e)
+    inr (then_of_parts xs ys (one_byte_text refl fu) (character_set d ys x) e)
 
 pub escape_value : (cs : List ℕ) → IsEscape cs → Means EscapedText cs
 unfolding EitherText MadeText Whichever Both Spelled

@@ -10,18 +10,21 @@ use Rattle.std.specs.Str.{all_scalars, encode_utf8_all}
 use Rattle.std.proofs.lemmas.Bool.{cases_lt}
 use Rattle.std.proofs.lemmas.List.Elements.{All-cons, All-head, All-nil, All-tail, All-weaker}
 use Rattle.std.proofs.lemmas.Str.{encodes-append, length-le-encodes}
-use Rattle.format_json_extents.proofs.Characters.{IsLow, Spelling, and_true, both_true, byte_in}
-use Rattle.format_json_extents.proofs.Characters.{either_in, first_byte, first_char, in_utf8}
-use Rattle.format_json_extents.proofs.Characters.{low_front, low_on, then_in, two_in}
-use Rattle.format_json_extents.proofs.Matching.{begins_at, joined, one, same_first, same_rest}
-use Rattle.format_json_extents.proofs.Matching.{this_then}
+use Rattle.format_json_extents.proofs.Characters.{IsAscii, Spelling, and_true, ascii_prefix}
+use Rattle.format_json_extents.proofs.Characters.{both_true, byte_in, either_in, first_byte}
+use Rattle.format_json_extents.proofs.Characters.{first_char, in_utf8, low_on, then_in, two_in}
+use Rattle.format_json_extents.proofs.Matching.{first_byte_of_match, given_byte_then_is_cons}
+use Rattle.format_json_extents.proofs.Matching.{heads_equal, one_byte_text, tails_equal}
+use Rattle.format_json_extents.proofs.Matching.{then_of_parts}
 use Rattle.format_json_extents.proofs.Scalars.{piece_starts, tail_run, tail_split}
 use Rattle.format_json_extents.proofs.Written.{Written, encoded, fit_parts, one_written}
 use Rattle.format_json_extents.proofs.Written.{scalars_parts, then_written}
 use Rattle.format_json_extents.proofs.Written.Escapes.{escape_set, escape_value}
-use Rattle.format_json_extents.proofs.Written.Units.{Ranges, high_ranges, low_ranges, only_ranges}
-use Rattle.format_json_extents.specs.Strings.{IsBackslash, IsEscape, IsEscaped, IsHexDigit, IsPiece}
-use Rattle.format_json_extents.specs.Strings.{IsString, IsStringTail, IsU, IsUnescaped, IsUnit}
+use Rattle.format_json_extents.proofs.Written.Units.{Ranges, high_surrogate_ranges}
+use Rattle.format_json_extents.proofs.Written.Units.{low_surrogate_ranges, non_surrogate_ranges}
+use Rattle.format_json_extents.specs.Strings.{IsBackslash, IsCodeUnit, IsEscape, IsEscaped}
+use Rattle.format_json_extents.specs.Strings.{IsHexDigit, IsLetterU, IsPiece, IsString}
+use Rattle.format_json_extents.specs.Strings.{IsStringTail, IsUnescaped}
 use Rattle.format_json_extents.specs.Texts.{IsByte, Many, MatchesAtStart, Then, nothing, one_more}
 use Rattle.format_json_texts.specs.Strings.{CharacterText, IsUnescaped as IsPlain, StringText}
 use Rattle.format_parts.specs.Words.{In, One, former, latter}
@@ -33,26 +36,26 @@ use Rattle.grammars.specs.Texts.{BothText as Both, EachText, EitherText, Gathere
 hex_low : (b : ℕ) → IsHexDigit b → b < 128
 hex_low b is = grind (arith, is)
 
-unit_low : {P : ℕ → ℕ → Type 0} {Q : ℕ → Type 0} → Ranges P Q → IsLow (IsUnit P)
+unit_low : {P : ℕ → ℕ → Type 0} {Q : ℕ → Type 0} → Ranges P Q → IsAscii (IsCodeUnit P)
 unit_low {P} ranges =
     then_in (two_in P (λ a b is.
     let (one, two) = ranges.hex a b is in (hex_low a one, hex_low b two)))
     (then_in (byte_in IsHexDigit hex_low) (byte_in IsHexDigit hex_low))
 
-slash_low : IsLow (IsByte IsBackslash)
+slash_low : IsAscii (IsByte IsBackslash)
 slash_low = byte_in IsBackslash (λ b e. omega (arith, e))
 
-letter_low : IsLow (IsByte IsU)
-letter_low = byte_in IsU (λ b e. omega (arith, e))
+letter_low : IsAscii (IsByte IsLetterU)
+letter_low = byte_in IsLetterU (λ b e. omega (arith, e))
 
-escape_low : IsLow (Then (IsByte IsBackslash) IsEscape)
+escape_low : IsAscii (Then (IsByte IsBackslash) IsEscape)
 escape_low =
     then_in slash_low
     (either_in (byte_in IsEscaped (λ b is. grind (arith, is)))
     (then_in letter_low
-    (either_in (unit_low only_ranges)
-    (then_in (unit_low high_ranges)
-    (then_in slash_low (then_in letter_low (unit_low low_ranges)))))))
+    (either_in (unit_low non_surrogate_ranges)
+    (then_in (unit_low high_surrogate_ranges)
+    (then_in slash_low (then_in letter_low (unit_low low_surrogate_ranges)))))))
 
 -- ---- characters that stand for themselves
 
@@ -80,7 +83,7 @@ many_run : (bytes more : List ℕ) → All IsUnescaped bytes → Many IsPiece mo
 many_run [] more all many = many
 many_run (b ∷ bytes) more all many =
     one_more (b ∷ []) (bytes ++ more) (b ∷ (bytes ++ more))
-    (inl (one (All-head IsUnescaped b bytes all) refl))
+    (inl (one_byte_text (All-head IsUnescaped b bytes all) refl))
     (many_run bytes more (All-tail IsUnescaped b bytes all) many) refl
 
 module _ (e : Spelling) where
@@ -98,7 +101,7 @@ module _ (e : Spelling) where
       by (inr high) = unescaped_on e c high
   piece_set c cs more (inr (s, d, xs, ys, (es, fs), x, f, out)) many =
       let is : Then (IsByte IsBackslash) IsEscape cs =
-      joined xs ys (one refl fs) (escape_set d ys x) f in
+      then_of_parts xs ys (one_byte_text refl fs) (escape_set d ys x) f in
       one_more (e.on cs) more (e.on cs ++ more) (inr (subst (Then (IsByte IsBackslash) IsEscape)
       (sym (low_on e cs (escape_low.each cs is))) is)) many refl
 
@@ -184,15 +187,15 @@ module _ (n : ℕ) (rows : Rows n) (c : ℕ) (cs rest : List ℕ) (few : length 
   escaped at text small (inl is) e tail =
       let same = sym (first_byte c cs small) ∙ e ∙ ap (λ l. l ++ at) is.alone in
       let P : List ℕ → Type 0 = λ l. MatchesAtStart IsStringTail l rest in
-      ahead (subst P (sym (same_rest same)) tail)
-      (subst IsUnescaped (sym (same_first same)) is.is_byte)
+      ahead (subst P (sym (tails_equal same)) tail)
+      (subst IsUnescaped (sym (heads_equal same)) is.is_byte)
   escaped at text small (inr is) e tail =
-      let (es, f, g) = low_front text (c ∷ cs) at (escape_low.each text is) e in
+      let (es, f, g) = ascii_prefix text (c ∷ cs) at (escape_low.each text is) e in
       let m = escape_value is.second is.is_second in
       let slash = is.is_first in
       let P : List ℕ → Type 0 = λ l. MatchesAtStart IsStringTail l rest in
       let Q : List ℕ → Type 0 = λ l. all_scalars l ≡ true in
-      let size = ap (λ l. length l) (this_then 92 is) in
+      let size = ap (λ l. length l) (given_byte_then_is_cons 92 is) in
       row_more m.char text es (c ∷ cs) rest (inr (
         92,
         m.char,
@@ -222,7 +225,7 @@ row_value : (n : ℕ) → Rows n
 row_value n [] rest few scalars it = elim (tail_split it) [
   | inl e ↦ quoted [] rest e
   | inr (at, piece, others) ↦
-      let b = begins_at piece_starts piece in
+      let b = first_byte_of_match piece_starts piece in
       let none : [] ≡ b.byte ∷ b.more = b.begins in
       absurd (omega (arith, ap (λ l. length l) none))
 ]
@@ -240,7 +243,7 @@ module _ {A : Type 0} where
   unfolding Both GatheredText Spelled
   tail_written = record {
     set = λ e o cs (string, q, xs, ys, (os, holds, x), y, f, out).
-        joined (e.on xs) (e.on ys) (row_set e os xs x) (quote_written.set e q ys y)
+        then_of_parts (e.on xs) (e.on ys) (row_set e os xs x) (quote_written.set e q ys y)
         (ap e.on f ∙ e.joins xs ys);
     value = λ cs front rest fits is f.
         let r = row_value (length cs) cs rest (omega arith) fits.scalars

@@ -1,9 +1,10 @@
 -- Four hexadecimal digits are the text of a unit.
 use Rattle.std.proofs.Common.{◌*◌, ◌++◌, ◌+◌, ◌-◌, ◌<◌, ◌∙◌, ◌∷◌, ◌≡◌, ◌≤◌, ◌⊎◌}
 use Rattle.std.proofs.Common.{[], ℕ, List, ap, arith, inl, inr, length, refl, subst, sym}
-use Rattle.format_json_extents.proofs.Matching.{byte_then, joined, one}
-use Rattle.format_json_extents.specs.Strings.{BeginHigh, BeginLow, BeginOnly, IsD, IsHexDigit}
-use Rattle.format_json_extents.specs.Strings.{IsUnit}
+use Rattle.format_json_extents.proofs.Matching.{byte_then_is_cons, one_byte_text, then_of_parts}
+use Rattle.format_json_extents.specs.Strings.{BeginHighSurrogate, BeginLowSurrogate}
+use Rattle.format_json_extents.specs.Strings.{BeginNonSurrogate, IsCodeUnit, IsHexDigit}
+use Rattle.format_json_extents.specs.Strings.{IsHexDigitD}
 use Rattle.format_parts.specs.Hexadecimal.{IsHex, UnitText, one_unit, unit_of}
 use Rattle.format_parts.specs.Words.{For, Whichever, pair}
 use Rattle.grammars.specs.Texts.{BothText as Both, MadeText}
@@ -33,11 +34,11 @@ IsUnitOf a b high low rest u =
 abbrev pub NoSurrogate : ℕ → Type 0
 NoSurrogate u = (u < 55296) ⊎ ((57344 ≤ u) × (u ≤ 1114111))
 
-abbrev pub IsHigh : ℕ → Type 0
-IsHigh u = (55296 ≤ u) × (u < 56320)
+abbrev pub IsHighSurrogate : ℕ → Type 0
+IsHighSurrogate u = (55296 ≤ u) × (u < 56320)
 
-abbrev pub IsLow : ℕ → Type 0
-IsLow u = (56320 ≤ u) × (u < 57344)
+abbrev pub IsLowSurrogate : ℕ → Type 0
+IsLowSurrogate u = (56320 ≤ u) × (u < 57344)
 
 -- `Ranges P Q`: the first two digits of a unit are in `P` if and only if the unit is in `Q`.
 pub record Ranges (P : ℕ → ℕ → Type 0) (Q : ℕ → Type 0) : Type 0 where
@@ -45,27 +46,27 @@ pub record Ranges (P : ℕ → ℕ → Type 0) (Q : ℕ → Type 0) : Type 0 whe
   pub there : (a b high low rest u : ℕ) → IsUnitOf a b high low rest u → P a b → Q u
   pub back : (a b high low rest u : ℕ) → IsUnitOf a b high low rest u → Q u → P a b
 
-pub only_ranges : Ranges BeginOnly NoSurrogate
-only_ranges = record {
+pub non_surrogate_ranges : Ranges BeginNonSurrogate NoSurrogate
+non_surrogate_ranges = record {
   hex = λ a b is. (is.0, is.1);
   there = λ a b high low rest u of is. free a b high low rest u of is.2;
   back = λ a b high low rest u of is.
       (digit_is a high of.0, digit_is b low of.1, λ d. grind (arith, of, is, d));
 }
   where
-    free : (a b high low rest u : ℕ) → IsUnitOf a b high low rest u → (IsD a → b ≤ 55)
+    free : (a b high low rest u : ℕ) → IsUnitOf a b high low rest u → (IsHexDigitD a → b ≤ 55)
         → NoSurrogate u
     free a b high low rest u of below = grind (arith, of, below)
 
-pub high_ranges : Ranges BeginHigh IsHigh
-high_ranges = record {
+pub high_surrogate_ranges : Ranges BeginHighSurrogate IsHighSurrogate
+high_surrogate_ranges = record {
   hex = λ a b is. (grind (arith, is), grind (arith, is));
   there = λ a b high low rest u of is. (grind (arith, of, is), grind (arith, of, is));
   back = λ a b high low rest u of is. (grind (arith, of, is), grind (arith, of, is));
 }
 
-pub low_ranges : Ranges BeginLow IsLow
-low_ranges = record {
+pub low_surrogate_ranges : Ranges BeginLowSurrogate IsLowSurrogate
+low_surrogate_ranges = record {
   hex = λ a b is. (grind (arith, is), grind (arith, is));
   there = λ a b high low rest u of is. (grind (arith, of, is), grind (arith, of, is));
   back = λ a b high low rest u of is. (grind (arith, of, is), grind (arith, of, is));
@@ -105,21 +106,21 @@ unit_same : (u v : ℕ) (cs : List ℕ) → UnitText u cs → UnitText v cs → 
 unit_same u v cs x y =
     (one_unit (cs ++ []) u v [] [] (unit_of.back u cs [] x tt) (unit_of.back v cs [] y tt)).0
 
-module _ {P : ℕ → ℕ → Type 0} (cs : List ℕ) (is : IsUnit P cs) where
+module _ {P : ℕ → ℕ → Type 0} (cs : List ℕ) (is : IsCodeUnit P cs) where
   pub unit_list : cs ≡ is.is_first.one ∷ is.is_first.two ∷ is.is_second.is_first.byte
       ∷ is.is_second.is_second.byte ∷ []
   unit_list =
       let first = is.is_first in
       let digits = is.is_second in
       is.joins ∙ ap (λ l. l ++ is.second) first.alone
-      ∙ ap (λ l. first.one ∷ first.two ∷ l) (byte_then digits
+      ∙ ap (λ l. first.one ∷ first.two ∷ l) (byte_then_is_cons digits
       ∙ ap (λ l. digits.is_first.byte ∷ l) digits.is_second.alone)
 
   pub unit_size : length cs ≡ 4
   unit_size = ap (λ l. length l) unit_list
 
 module _ {P : ℕ → ℕ → Type 0} {Q : ℕ → Type 0} (ranges : Ranges P Q) (cs : List ℕ) where
-  pub unit_value : IsUnit P cs → (u : ℕ) × UnitText u cs × Q u
+  pub unit_value : IsCodeUnit P cs → (u : ℕ) × UnitText u cs × Q u
   unit_value is =
       let first = is.is_first in
       let (ha, hb) = ranges.hex first.one first.two first.are_bytes in
@@ -141,10 +142,10 @@ module _ {P : ℕ → ℕ → Type 0} {Q : ℕ → Type 0} (ranges : Ranges P Q)
         ) first.are_bytes,
       )
 
-  pub unit_in : (u : ℕ) → UnitText u cs → IsUnit P cs → Q u
+  pub unit_in : (u : ℕ) → UnitText u cs → IsCodeUnit P cs → Q u
   unit_in u x is = let (v, y, q) = unit_value is in subst Q (unit_same v u cs y x) q
 
-  pub unit_set : (u : ℕ) → Q u → UnitText u cs → IsUnit P cs
+  pub unit_set : (u : ℕ) → Q u → UnitText u cs → IsCodeUnit P cs
   unfolding Both MadeText Whichever
   unit_set u q (
     ds,
@@ -169,7 +170,7 @@ module _ {P : ℕ → ℕ → Type 0} {Q : ℕ → Type 0} (ranges : Ranges P Q)
     ),
     is,
   ) =
-      joined (a ∷ b ∷ []) (c ∷ d ∷ [])
+      then_of_parts (a ∷ b ∷ []) (c ∷ d ∷ [])
       (record {
         one = a;
         two = b;
@@ -187,6 +188,7 @@ module _ {P : ℕ → ℕ → Type 0} {Q : ℕ → Type 0} (ranges : Ranges P Q)
         ) q;
         alone = refl;
       })
-      (joined (c ∷ []) (d ∷ []) (one (digit_is c dc xc) refl) (one (digit_is d dd xd) refl) refl)
+      (then_of_parts (c ∷ []) (d ∷ []) (one_byte_text (digit_is c dc xc) refl)
+      (one_byte_text (digit_is d dd xd) refl) refl)
       (e1 ∙ ap (λ l. l ++ ys) ea ∙ ap (λ l. a ∷ l) (e2 ∙ ap (λ l. l ++ ys2) eb
       ∙ ap (λ l. b ∷ l) (e3 ∙ ap (λ l. l ++ ys3) ec ∙ ap (λ l. c ∷ l) ed)))

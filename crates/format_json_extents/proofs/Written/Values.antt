@@ -9,7 +9,7 @@ use Rattle.std.specs.List.{AllByRecursion}
 use Rattle.std.specs.Str.{IsUtf8, chars, encode_utf8_all}
 use Rattle.std.specs.declared.string.String.{String}
 use Rattle.format_json_extents.proofs.Characters.{in_utf8, only_low, themselves}
-use Rattle.format_json_extents.proofs.Matching.{joined}
+use Rattle.format_json_extents.proofs.Matching.{then_of_parts}
 use Rattle.format_json_extents.proofs.Written.{Fits, Written, either_written, for_written}
 use Rattle.format_json_extents.proofs.Written.{low_written, then_written}
 use Rattle.format_json_extents.proofs.Written.Brackets.{IsMarked, bracketed_written, gap_written}
@@ -18,9 +18,9 @@ use Rattle.format_json_extents.proofs.Written.Numbers.{Same, as_written, number_
 use Rattle.format_json_extents.proofs.Written.Strings.{string_written}
 use Rattle.format_json_extents.specs.Number.{IsNumber}
 use Rattle.format_json_extents.specs.Strings.{IsString}
-use Rattle.format_json_extents.specs.Texts.{Either, IsByte, IsLongest, NoneStands, Then}
-use Rattle.format_json_extents.specs.Value.{IsGap, IsMember, IsNestedTail, IsScalar, IsText}
-use Rattle.format_json_extents.specs.Value.{IsValue, IsWord, Only, opening}
+use Rattle.format_json_extents.specs.Texts.{Either, IsByte, IsLongest, NoMatchAtStart, Then}
+use Rattle.format_json_extents.specs.Value.{Exactly, IsMember, IsNestedTail, IsScalar, IsText}
+use Rattle.format_json_extents.specs.Value.{IsValue, IsWhitespace, IsWord, opening_bracket}
 use Rattle.format_json_texts.specs.Number.{NumberText}
 use Rattle.format_parts.specs.Words.{Slice, former, latter, pair}
 use Rattle.format_json_texts.specs.Values.{ArrayText, HasText, IsArray, IsNumber as IsNumberOf}
@@ -34,7 +34,7 @@ use Rattle.grammars.specs.Texts.{Spelled, TakenText, Text}
 use Rattle.format_json_extents.specs.Standard.{AnyValue, IsTextByStandard, IsValueByStandard}
 
 only_written : {A : Type 0} {O : Type 0} (word : List ℕ) (o : O)
-    → AllByRecursion (λ b. b < 128) word → Written A (Only word) (Spelled word o)
+    → AllByRecursion (λ b. b < 128) word → Written A (Exactly word) (Spelled word o)
 unfolding Spelled
 only_written word o low =
     low_written (only_low word low) (λ p cs (is, e). e) (λ cs e. (o, (refl, e)))
@@ -60,10 +60,10 @@ third_first P Q R = (there, back)
 
 -- what an object has in it is whitespace, and then the rest of a member
 abbrev MemberBody : (List ℕ → Type 0) → List ℕ → Type 0
-MemberBody V = Then (Then IsString IsGap) (Then (IsMarked 58) (Then V IsGap))
+MemberBody V = Then (Then IsString IsWhitespace) (Then (IsMarked 58) (Then V IsWhitespace))
 
 member_there : (V : List ℕ → Type 0) (cs : List ℕ) → IsMember V cs
-    → Then IsGap (MemberBody V) cs
+    → Then IsWhitespace (MemberBody V) cs
 member_there V cs is =
     let key = is.is_first in
     let name = key.is_second in
@@ -71,14 +71,16 @@ member_there V cs is =
     let element = is.is_second in
     let named = name.first ++ colon.first in
     let value = (colon.second ++ element.first) ++ element.second in
-    joined key.first (named ++ value) key.is_first
-    (joined named value (joined name.first colon.first name.is_first colon.is_first refl)
-    (joined (colon.second ++ element.first) element.second
-    (joined colon.second element.first colon.is_second element.is_first refl) element.is_second
+    then_of_parts key.first (named ++ value) key.is_first
+    (then_of_parts named value
+    (then_of_parts name.first colon.first name.is_first colon.is_first refl)
+    (then_of_parts (colon.second ++ element.first) element.second
+    (then_of_parts colon.second element.first colon.is_second element.is_first refl)
+    element.is_second
     refl) refl)
     (simp (is.joins, key.joins, name.joins, colon.joins, element.joins, append_assoc))
 
-member_back : (V : List ℕ → Type 0) (cs : List ℕ) → Then IsGap (MemberBody V) cs
+member_back : (V : List ℕ → Type 0) (cs : List ℕ) → Then IsWhitespace (MemberBody V) cs
     → IsMember V cs
 member_back V cs is =
     let body = is.is_second in
@@ -86,11 +88,11 @@ member_back V cs is =
     let more = body.is_second in
     let colon = more.is_first in
     let named = name.second ++ colon.first in
-    joined (is.first ++ (name.first ++ named)) (colon.second ++ more.second)
-    (joined is.first (name.first ++ named) is.is_first
-    (joined name.first named name.is_first
-    (joined name.second colon.first name.is_second colon.is_first refl) refl) refl)
-    (joined colon.second more.second colon.is_second more.is_second refl)
+    then_of_parts (is.first ++ (name.first ++ named)) (colon.second ++ more.second)
+    (then_of_parts is.first (name.first ++ named) is.is_first
+    (then_of_parts name.first named name.is_first
+    (then_of_parts name.second colon.first name.is_second colon.is_first refl) refl) refl)
+    (then_of_parts colon.second more.second colon.is_second more.is_second refl)
     (simp (is.joins, body.joins, name.joins, more.joins, colon.joins, append_assoc))
 
 module _ {A : Type 0} where
@@ -114,15 +116,16 @@ module _ {A : Type 0} where
       (λ text cs fits x. (values.Text text, refl)))))
 
   module _ {V : List ℕ → Type 0} {value : Text ℕ (Value A)} (v : Written A V value) where
-    spaced : Written A (Then V IsGap) (Spaced value)
+    spaced : Written A (Then V IsWhitespace) (Spaced value)
     spaced = then_written former v gap_written
 
-    array_written : Written A (Then (IsByte (λ b. b ≡ opening false)) (IsNestedTail false V))
+    array_written : Written A
+        (Then (IsByte (λ b. b ≡ opening_bracket false)) (IsNestedTail false V))
         (ArrayText (HasCharacters {A = A}) value)
     array_written =
         bracketed_written (λ cs is. is) (λ cs is. is) spaced 91 93 (omega arith) (omega arith)
 
-    object_written : Written A (Then (IsByte (λ b. b ≡ opening true)) (IsNestedTail true V))
+    object_written : Written A (Then (IsByte (λ b. b ≡ opening_bracket true)) (IsNestedTail true V))
         (ObjectText (HasCharacters {A = A}) value)
     object_written =
         bracketed_written (member_there V) (member_back V)
@@ -225,7 +228,7 @@ module _ (level : ℕ) (bytes : List ℕ) (few : length bytes < 2 ^ 63) where
   found_longest found left it text rest is e =
       it.longest text rest ((value_standard level text (front_few text rest e) is.0).1 is) e
 
-  pub none_standard : NoneStands (IsValue level) bytes → (text rest : List ℕ)
+  pub none_standard : NoMatchAtStart (IsValue level) bytes → (text rest : List ℕ)
       → IsValueByStandard level text → bytes ≡ text ++ rest → ⊥
   none_standard none text rest is e =
       none rest (record {

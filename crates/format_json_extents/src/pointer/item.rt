@@ -3,7 +3,7 @@
 ghost use Rattle.std.specs.Prelude.{◌≡◌, ◌↔◌, IfNone, IfSome, IsTrue, MatchOption, Some};
 ghost use Rattle.format_json_extents.specs.Pointer.{IsFoundItem, IsIndex, IsIndexFor, IsSought};
 ghost use Rattle.format_json_extents.specs.Pointer.{lower};
-ghost use Rattle.format_json_extents.specs.Texts.{Never, NoneStands, RestAfter};
+ghost use Rattle.format_json_extents.specs.Texts.{NoByte, NoMatchAtStart, RestAfter};
 ghost use Rattle.format_json_extents.specs.Value.{IsName, IsNestedTail, IsValue};
 
 use crate::integer::as_u64;
@@ -59,8 +59,8 @@ fn skip_key<'i>(
     token: &[u8],
     bytes: &'i [u8],
 ) -> Option<(bool, &'i [u8])>
-    ensures rest { MatchOption result (NoneStands (IsName keyed) bytes.now)
-        (λ r. RestAfter (IsName keyed) Never bytes.now r.1.now) }
+    ensures rest { MatchOption result (NoMatchAtStart (IsName keyed) bytes.now)
+        (λ r. RestAfter (IsName keyed) NoByte bytes.now r.1.now) }
     ensures sought { IfSome result (λ r. IsSought keyed r.0 index token.now bytes.now) }
 {
     if keyed {
@@ -84,7 +84,7 @@ pub fn find_item<'i>(
     token: &[u8],
     inside: &'i [u8],
 ) -> Option<(bool, &'i [u8], &'i [u8])>
-    ensures none { IfNone result (NoneStands (IsNestedTail keyed (IsValue level)) inside.now) }
+    ensures none { IfNone result (NoMatchAtStart (IsNestedTail keyed (IsValue level)) inside.now) }
     ensures found { IfSome result (λ r.
         IsFoundItem r.0 keyed level index token.now inside.now r.1.now r.2.now) }
 {

@@ -6,17 +6,18 @@ use Rattle.std.specs.Str.{IsUtf8}
 use Rattle.std.proofs.Common.{arith, refl, subst, sym}
 use Rattle.std.proofs.lemmas.Bool.Decides.{nat_tests}
 use Rattle.std.proofs.lemmas.Str.{IsUtf8-nil}
-use Rattle.format_json_extents.proofs.Matching.{joined}
+use Rattle.format_json_extents.proofs.Matching.{then_of_parts}
 use Rattle.format_json_pieces.proofs.Completions.{Completes, CompletesAfter}
 use Rattle.format_json_pieces.proofs.Completions.Numbers.{figure_done}
-use Rattle.format_json_pieces.proofs.Completions.Strings.{if_by}
+use Rattle.format_json_pieces.proofs.Completions.Strings.{if_by_cases}
 use Rattle.format_json_pieces.proofs.Completions.Utf8.{Utf8Inner, Utf8Part, part_utf8, utf8_ascii}
-use Rattle.format_json_pieces.specs.Begun.{IsAfterValue, IsNextStep, after_step, first_step, is_gap}
-use Rattle.format_json_pieces.specs.Begun.{item_step, last_open, letters_step, name_step}
-use Rattle.format_json_pieces.specs.Begun.{next_step, number_step, others_open, value_step}
-use Rattle.format_json_pieces.specs.Begun.{behind_number, within_name, within_text, word_step}
-use Rattle.format_json_pieces.specs.Inside.{expected, figure_behind, goes_on, is_final}
-use Rattle.format_json_pieces.specs.Inside.{letters_behind, part_behind}
+use Rattle.format_json_pieces.specs.Begun.{HoldsAfterValue, HoldsAfterStep, after_step, first_step}
+use Rattle.format_json_pieces.specs.Begun.{is_whitespace, item_step, last_open, letters_step}
+use Rattle.format_json_pieces.specs.Begun.{name_step, next_step, number_step, others_open}
+use Rattle.format_json_pieces.specs.Begun.{value_step, step_after_number, step_in_name}
+use Rattle.format_json_pieces.specs.Begun.{step_in_text, word_step}
+use Rattle.format_json_pieces.specs.Inside.{continues_number, expected_letter, figure_behind}
+use Rattle.format_json_pieces.specs.Inside.{letters_behind, may_be_last, part_behind}
 use Rattle.format_json_pieces.specs.declared.begun.Bracket.{Bracket}
 use Rattle.format_json_pieces.specs.declared.begun.Bracket.TheVariants as kinds
 use Rattle.format_json_pieces.specs.declared.begun.Mode.{Mode}
@@ -34,30 +35,31 @@ use Rattle.format_json_pieces.specs.declared.inside.Part.TheVariants as parts
 -- ---- each step by the tests of its byte
 
 -- what holds of each step where a value is to come
-value_by : (P : Step → Type 0) (mode : Mode) (b : ℕ) → (is_gap b ≡ true → P (steps.Goes mode))
+value_by : (P : Step → Type 0) (mode : Mode) (b : ℕ)
+    → (is_whitespace b ≡ true → P (steps.Goes mode))
     → (b < 128 → P (steps.Goes (modes.Text parts.Plain)))
     → (b < 128 → (k : Bracket) → P (steps.Opens k))
     → (b < 128 → (letters : Letters) → P (steps.Goes (modes.Word letters)))
     → (b < 128 → (figure : Figure) → P (steps.Goes (modes.Number figure))) → P steps.Invalid
     → P (value_step mode b)
 value_by P mode b gap text opens word number invalid =
-    if_by P (is_gap b) _ _ gap (λ e0.
-    if_by P (b == 34) _ _ (λ e. text (grind (arith, nat_tests, e))) (λ e1.
-    if_by P (b == 91) _ _ (λ e. opens (grind (arith, nat_tests, e)) kinds.Array) (λ e2.
-    if_by P (b == 123) _ _ (λ e. opens (grind (arith, nat_tests, e)) kinds.Object) (λ e3.
-    if_by P (b == 102) _ _ (λ e. word (grind (arith, nat_tests, e)) words.Alse) (λ e4.
-    if_by P (b == 110) _ _ (λ e. word (grind (arith, nat_tests, e)) words.Ull) (λ e5.
-    if_by P (b == 116) _ _ (λ e. word (grind (arith, nat_tests, e)) words.Rue) (λ e6.
-    if_by P (b == 45) _ _ (λ e. number (grind (arith, nat_tests, e)) figures.Minus) (λ e7.
-    if_by P (b == 48) _ _ (λ e. number (grind (arith, nat_tests, e)) figures.Zero) (λ e8.
-    if_by P (nat_le 49 b && nat_le b 57) _ _
+    if_by_cases P (is_whitespace b) _ _ gap (λ e0.
+    if_by_cases P (b == 34) _ _ (λ e. text (grind (arith, nat_tests, e))) (λ e1.
+    if_by_cases P (b == 91) _ _ (λ e. opens (grind (arith, nat_tests, e)) kinds.Array) (λ e2.
+    if_by_cases P (b == 123) _ _ (λ e. opens (grind (arith, nat_tests, e)) kinds.Object) (λ e3.
+    if_by_cases P (b == 102) _ _ (λ e. word (grind (arith, nat_tests, e)) words.Alse) (λ e4.
+    if_by_cases P (b == 110) _ _ (λ e. word (grind (arith, nat_tests, e)) words.Ull) (λ e5.
+    if_by_cases P (b == 116) _ _ (λ e. word (grind (arith, nat_tests, e)) words.Rue) (λ e6.
+    if_by_cases P (b == 45) _ _ (λ e. number (grind (arith, nat_tests, e)) figures.Minus) (λ e7.
+    if_by_cases P (b == 48) _ _ (λ e. number (grind (arith, nat_tests, e)) figures.Zero) (λ e8.
+    if_by_cases P (nat_le 49 b && nat_le b 57) _ _
     (λ e. number (grind (arith, nat_tests, e)) figures.Whole) (λ e9. invalid))))))))))
 
-name_by : (P : Step → Type 0) (mode : Mode) (b : ℕ) → (is_gap b ≡ true → P (steps.Goes mode))
+name_by : (P : Step → Type 0) (mode : Mode) (b : ℕ) → (is_whitespace b ≡ true → P (steps.Goes mode))
     → (b < 128 → P (steps.Goes (modes.Name parts.Plain))) → P steps.Invalid → P (name_step mode b)
 name_by P mode b gap name invalid =
-    if_by P (is_gap b) _ _ gap (λ e0.
-    if_by P (b == 34) _ _ (λ e. name (grind (arith, nat_tests, e))) (λ e. invalid))
+    if_by_cases P (is_whitespace b) _ _ gap (λ e0.
+    if_by_cases P (b == 34) _ _ (λ e. name (grind (arith, nat_tests, e))) (λ e. invalid))
 
 -- the bracket that was opened last is one that a byte closes
 abbrev pub IsClosed : List Bracket → Type 0
@@ -67,18 +69,18 @@ IsClosed (kinds.Array ∷ held) = ⊤
 IsClosed (kinds.Object ∷ held) = ⊤
 
 after_by : (P : Step → Type 0) (k : Bracket) (held : List Bracket) (b : ℕ)
-    → (is_gap b ≡ true → P (steps.Goes modes.After)) → (b < 128 → P (steps.Goes modes.Item))
+    → (is_whitespace b ≡ true → P (steps.Goes modes.After)) → (b < 128 → P (steps.Goes modes.Item))
     → (b < 128 → IsClosed (k ∷ held) → P steps.Closes) → P steps.Invalid → P (after_step k b)
 after_by P kinds.Whole held b gap comma closes invalid =
-    if_by P (is_gap b) _ _ gap (λ e. invalid)
+    if_by_cases P (is_whitespace b) _ _ gap (λ e. invalid)
 after_by P kinds.Array held b gap comma closes invalid =
-    if_by P (is_gap b) _ _ gap (λ e0.
-    if_by P (b == 44) _ _ (λ e. comma (grind (arith, nat_tests, e))) (λ e1.
-    if_by P (b == 93) _ _ (λ e. closes (grind (arith, nat_tests, e)) tt) (λ e. invalid)))
+    if_by_cases P (is_whitespace b) _ _ gap (λ e0.
+    if_by_cases P (b == 44) _ _ (λ e. comma (grind (arith, nat_tests, e))) (λ e1.
+    if_by_cases P (b == 93) _ _ (λ e. closes (grind (arith, nat_tests, e)) tt) (λ e. invalid)))
 after_by P kinds.Object held b gap comma closes invalid =
-    if_by P (is_gap b) _ _ gap (λ e0.
-    if_by P (b == 44) _ _ (λ e. comma (grind (arith, nat_tests, e))) (λ e1.
-    if_by P (b == 125) _ _ (λ e. closes (grind (arith, nat_tests, e)) tt) (λ e. invalid)))
+    if_by_cases P (is_whitespace b) _ _ gap (λ e0.
+    if_by_cases P (b == 44) _ _ (λ e. comma (grind (arith, nat_tests, e))) (λ e1.
+    if_by_cases P (b == 125) _ _ (λ e. closes (grind (arith, nat_tests, e)) tt) (λ e. invalid)))
 
 -- what makes UTF-8 of the bytes of a value before this mode
 abbrev pub Utf8Mode : Mode → List ℕ → Type 0
@@ -86,16 +88,16 @@ Utf8Mode (modes.Name part) text = Utf8Part part text
 Utf8Mode (modes.Text part) text = Utf8Part part text
 Utf8Mode _ text = IsUtf8 text
 
-gap_low : (b : ℕ) → is_gap b ≡ true → b < 128
+gap_low : (b : ℕ) → is_whitespace b ≡ true → b < 128
 gap_low b e = grind (arith, nat_tests, e)
 
 -- ---- a byte in front of UTF-8
 
 module _ (level b : ℕ) (text : List ℕ) where
   abbrev pub Utf8Step : List Bracket → Step → Type 0
-  Utf8Step held step = IsNextStep ⊥ (IsUtf8 text) (λ m o. Utf8Mode m text) level held step
+  Utf8Step held step = HoldsAfterStep ⊥ (IsUtf8 text) (λ m o. Utf8Mode m text) level held step
 
-  after_utf8 : (held : List Bracket) → IsAfterValue (IsUtf8 text) (λ m o. Utf8Mode m text) held
+  after_utf8 : (held : List Bracket) → HoldsAfterValue (IsUtf8 text) (λ m o. Utf8Mode m text) held
       → IsUtf8 text
   after_utf8 [] x = x
   after_utf8 (k ∷ held) x = x
@@ -124,16 +126,16 @@ module _ (level b : ℕ) (text : List ℕ) where
 
     first_utf8 : (o : Option Bracket) → Case (first_step o b)
     first_utf8 (Some kinds.Array) =
-        if_by Case (b == 93) _ _
+        if_by_cases Case (b == 93) _ _
         (λ e x. low (grind (arith, nat_tests, e)) (after_utf8 (others_open held) x))
         (λ e. value_utf8 modes.First (λ x. x))
     first_utf8 (Some kinds.Object) =
-        if_by Case (b == 125) _ _
+        if_by_cases Case (b == 125) _ _
         (λ e x. low (grind (arith, nat_tests, e)) (after_utf8 (others_open held) x))
         (λ e. name_utf8 modes.First (λ x. x))
     first_utf8 _ = value_utf8 modes.First (λ x. x)
 
-    behind_utf8 : (o : Option Bracket) → Case (behind_number o b)
+    behind_utf8 : (o : Option Bracket) → Case (step_after_number o b)
     behind_utf8 None x = absurd x
     behind_utf8 (Some k) x =
         after_by Case k [] b (λ e y. low (gap_low b e) y) (λ few y. low few y)
@@ -144,7 +146,7 @@ module _ (level b : ℕ) (text : List ℕ) where
         → Case (number_step next final (last_open held) b)
     number_utf8 (Some figure) final few x = low (few figure refl) x
     number_utf8 None final few x =
-        if_by Case (not final || goes_on b) _ _ (λ e y. absurd y)
+        if_by_cases Case (not final || continues_number b) _ _ (λ e y. absurd y)
         (λ e y. behind_utf8 (last_open held) y) x
 
     figure_low : (figure next : Figure) → figure_behind figure b ≡ Some next → b < 128
@@ -153,10 +155,10 @@ module _ (level b : ℕ) (text : List ℕ) where
 
     word_utf8 : (letters : Letters) → Case (letters_step letters b)
     word_utf8 letters =
-        if_by Case (b == expected letters) _ _
+        if_by_cases Case (b == expected_letter letters) _ _
         (λ e. by (letters_behind letters) (letter_low letters e)) (λ e x. absurd x)
       where
-        letter_low : (letters : Letters) → b == expected letters ≡ true → b < 128
+        letter_low : (letters : Letters) → b == expected_letter letters ≡ true → b < 128
         letter_low words.Ull e = grind (arith, nat_tests, e)
         letter_low _ e = grind (arith, nat_tests, e)
 
@@ -164,12 +166,12 @@ module _ (level b : ℕ) (text : List ℕ) where
         by None few x = low few (after_utf8 held x)
         by (Some next) few x = low few x
 
-    text_utf8 : (inner : Inner) → Utf8Step held (within_text inner) → Utf8Inner inner text
+    text_utf8 : (inner : Inner) → Utf8Step held (step_in_text inner) → Utf8Inner inner text
     text_utf8 inners.Broken x = x
     text_utf8 inners.Quote x = after_utf8 held x
     text_utf8 (inners.Part part) x = x
 
-    name_part_utf8 : (inner : Inner) → Utf8Step held (within_name inner) → Utf8Inner inner text
+    name_part_utf8 : (inner : Inner) → Utf8Step held (step_in_name inner) → Utf8Inner inner text
     name_part_utf8 inners.Broken x = x
     name_part_utf8 inners.Quote x = x
     name_part_utf8 (inners.Part part) x = x
@@ -181,13 +183,14 @@ module _ (level b : ℕ) (text : List ℕ) where
     step_utf8 modes.Item x = item_utf8 (last_open held) x
     step_utf8 modes.Value x = value_utf8 modes.Value (λ y. y) x
     step_utf8 modes.Colon x =
-        if_by Case (is_gap b) _ _ (λ e y. low (gap_low b e) y) (λ gap.
-        if_by Case (b == 58) _ _ (λ e y. low (grind (arith, nat_tests, e)) y) (λ e y. absurd y)) x
+        if_by_cases Case (is_whitespace b) _ _ (λ e y. low (gap_low b e) y) (λ gap.
+        if_by_cases Case (b == 58) _ _ (λ e y. low (grind (arith, nat_tests, e)) y)
+        (λ e y. absurd y)) x
     step_utf8 modes.After x = behind_utf8 (last_open held) x
     step_utf8 (modes.Name part) x = part_utf8 b text part (name_part_utf8 (part_behind part b) x)
     step_utf8 (modes.Text part) x = part_utf8 b text part (text_utf8 (part_behind part b) x)
     step_utf8 (modes.Number figure) x =
-        number_utf8 (figure_behind figure b) (is_final figure) (figure_low figure) x
+        number_utf8 (figure_behind figure b) (may_be_last figure) (figure_low figure) x
     step_utf8 (modes.Word letters) x = word_utf8 letters x
 
 -- ---- steps that end a value before their byte, and that close brackets
@@ -212,17 +215,17 @@ module _ (level b : ℕ) where
 
   behind_fine : (mode : Mode) (held : List Bracket)
       → (held ≡ [] → Completes level mode held [] × Utf8Mode mode [])
-      → IsFine level mode held (behind_number (last_open held) b)
+      → IsFine level mode held (step_after_number (last_open held) b)
   behind_fine mode [] done = let (is, utf8) = done refl in (refl, is, utf8)
   behind_fine mode (k ∷ held) done =
       after_by (IsFine level mode (k ∷ held)) k held b (λ e. tt) (λ few. tt) (λ few is. is) tt
 
   first_fine : (held : List Bracket) → IsFine level modes.First held (first_step (last_open held) b)
   first_fine (kinds.Array ∷ held) =
-      if_by (IsFine level modes.First (kinds.Array ∷ held)) (b == 93) _ _ (λ e. tt)
+      if_by_cases (IsFine level modes.First (kinds.Array ∷ held)) (b == 93) _ _ (λ e. tt)
       (λ e. value_fine modes.First modes.First (kinds.Array ∷ held))
   first_fine (kinds.Object ∷ held) =
-      if_by (IsFine level modes.First (kinds.Object ∷ held)) (b == 125) _ _ (λ e. tt)
+      if_by_cases (IsFine level modes.First (kinds.Object ∷ held)) (b == 125) _ _ (λ e. tt)
       (λ e. name_fine modes.First modes.First (kinds.Object ∷ held))
   first_fine held = value_fine modes.First modes.First held
 
@@ -232,12 +235,12 @@ module _ (level b : ℕ) where
   item_fine held = value_fine modes.Item modes.Item held
 
   text_fine : (mode : Mode) (held : List Bracket) (inner : Inner)
-      → IsFine level mode held (within_text inner)
+      → IsFine level mode held (step_in_text inner)
   text_fine mode held inners.Broken = tt
   text_fine mode held _ = tt
 
   name_part_fine : (mode : Mode) (held : List Bracket) (inner : Inner)
-      → IsFine level mode held (within_name inner)
+      → IsFine level mode held (step_in_name inner)
   name_part_fine mode held inners.Broken = tt
   name_part_fine mode held _ = tt
 
@@ -248,12 +251,15 @@ module _ (level b : ℕ) where
 
   number_fine : (figure : Figure) (held : List Bracket) (next : Option Figure)
       → IsFine level (modes.Number figure) held
-      (number_step next (is_final figure) (last_open held) b)
+      (number_step next (may_be_last figure) (last_open held) b)
   number_fine figure held (Some next) = tt
   number_fine figure held None =
-      if_by (IsFine level (modes.Number figure) held) (not (is_final figure) || goes_on b) _ _
-      (λ e. tt) (λ e. behind_fine (modes.Number figure) held (λ none.
-      (joined [] [] (figure_done figure (grind (arith, e))) (by held none) refl, IsUtf8-nil)))
+      if_by_cases (IsFine level (modes.Number figure) held)
+      (not (may_be_last figure) || continues_number b) _ _
+      (λ e. tt) (λ e. behind_fine (modes.Number figure) held (λ none. (
+        then_of_parts [] [] (figure_done figure (grind (arith, e))) (by held none) refl,
+        IsUtf8-nil,
+      )))
     where
       by : (held : List Bracket) → held ≡ [] → CompletesAfter level held []
       by held none = subst (λ o. CompletesAfter level o []) (sym none) refl
@@ -264,8 +270,8 @@ module _ (level b : ℕ) where
   step_fine modes.Item held = item_fine held
   step_fine modes.Value held = value_fine modes.Value modes.Value held
   step_fine modes.Colon held =
-      if_by (IsFine level modes.Colon held) (is_gap b) _ _ (λ e. tt)
-      (λ e. if_by (IsFine level modes.Colon held) (b == 58) _ _ (λ f. tt) (λ f. tt))
+      if_by_cases (IsFine level modes.Colon held) (is_whitespace b) _ _ (λ e. tt)
+      (λ e. if_by_cases (IsFine level modes.Colon held) (b == 58) _ _ (λ f. tt) (λ f. tt))
   step_fine modes.After held =
       behind_fine modes.After held
       (λ none. (subst (λ o. CompletesAfter level o []) (sym none) refl, IsUtf8-nil))
@@ -273,5 +279,5 @@ module _ (level b : ℕ) where
   step_fine (modes.Text part) held = text_fine (modes.Text part) held (part_behind part b)
   step_fine (modes.Number figure) held = number_fine figure held (figure_behind figure b)
   step_fine (modes.Word letters) held =
-      if_by (IsFine level (modes.Word letters) held) (b == expected letters) _ _
+      if_by_cases (IsFine level (modes.Word letters) held) (b == expected_letter letters) _ _
       (λ e. word_fine (modes.Word letters) held (letters_behind letters)) (λ e. tt)

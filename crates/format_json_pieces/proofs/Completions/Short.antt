@@ -3,15 +3,15 @@ use Rattle.std.specs.Prelude.{◌≡◌, ◌+◌, ◌≤◌, ◌<◌, ◌∷◌,
 use Rattle.std.proofs.Common.{arith, length-append, refl}
 use Rattle.std.proofs.lemmas.List.Elements.{All-from_recursion, All-nil}
 use Rattle.std.proofs.lemmas.Str.{IsUtf8-append, IsUtf8-nil}
-use Rattle.format_json_extents.proofs.Characters.{AreLow, low_utf8}
-use Rattle.format_json_extents.proofs.Matching.{joined}
-use Rattle.format_json_extents.specs.Value.{IsSpace}
+use Rattle.format_json_extents.proofs.Characters.{AreAscii, ascii_is_utf8}
+use Rattle.format_json_extents.proofs.Matching.{then_of_parts}
+use Rattle.format_json_extents.specs.Value.{IsWhitespaceByte}
 use Rattle.format_json_pieces.proofs.Completions.{letters_of}
 use Rattle.format_json_pieces.proofs.Completions.Numbers.{figure_done}
 use Rattle.format_json_pieces.proofs.Completions.Walked.{Both, BothAfter, both_back, into_after}
 use Rattle.format_json_pieces.proofs.Completions.Walked.{walked_to}
 use Rattle.format_json_pieces.specs.Extents.{IsWalkedTo}
-use Rattle.format_json_pieces.specs.Inside.{is_final}
+use Rattle.format_json_pieces.specs.Inside.{may_be_last}
 use Rattle.format_json_pieces.specs.declared.begun.Bracket.{Bracket}
 use Rattle.format_json_pieces.specs.declared.begun.Bracket.TheVariants as kinds
 use Rattle.format_json_pieces.specs.declared.begun.Mode.{Mode}
@@ -37,7 +37,7 @@ abbrev rest_of : Part → List ℕ
 rest_of parts.Plain = []
 rest_of parts.Escape = 110 ∷ []
 rest_of parts.Unit = 48 ∷ 48 ∷ 48 ∷ 48 ∷ []
-rest_of parts.BehindD = 48 ∷ 48 ∷ 48 ∷ []
+rest_of parts.AfterSurrogateD = 48 ∷ 48 ∷ 48 ∷ []
 rest_of parts.Three = 48 ∷ 48 ∷ 48 ∷ []
 rest_of parts.Two = 48 ∷ 48 ∷ []
 rest_of parts.One = 48 ∷ []
@@ -78,7 +78,7 @@ digit_few : (figure : Figure) → length (digit_of figure) ≤ 1
 digit_few figures.Minus = omega arith
 digit_few _ = omega arith
 
-last_final : (figure : Figure) → is_final (last_of figure) ≡ true
+last_final : (figure : Figure) → may_be_last (last_of figure) ≡ true
 last_final figures.Minus = refl
 last_final _ = refl
 
@@ -86,7 +86,7 @@ letters_few : (letters : Letters) → length (letters_of letters) ≤ 4
 letters_few words.Ull = omega arith
 letters_few _ = omega arith
 
-letters_low : (letters : Letters) → AreLow (letters_of letters)
+letters_low : (letters : Letters) → AreAscii (letters_of letters)
 letters_low words.Ull = All-from_recursion (λ b. b < 128) (letters_of words.Ull) (omega arith)
 letters_low letters = All-from_recursion (λ b. b < 128) (letters_of letters) (omega arith)
 
@@ -127,7 +127,7 @@ module _ (level : ℕ) where
   -- the brackets closed
   after_short : (held : List Bracket) → Short (length held) (BothAfter level held)
   after_short [] = ([], (refl, IsUtf8-nil), omega arith)
-  after_short (kinds.Whole ∷ held) = ([], (All-nil IsSpace, IsUtf8-nil), omega arith)
+  after_short (kinds.Whole ∷ held) = ([], (All-nil IsWhitespaceByte, IsUtf8-nil), omega arith)
   after_short (kinds.Array ∷ held) =
       let (l, is, few) = after_short held in (
         93 ∷ l,
@@ -143,11 +143,11 @@ module _ (level : ℕ) where
 
   module _ (held : List Bracket) where
     -- a number that is complete
-    final_short : (figure : Figure) → is_final figure ≡ true
+    final_short : (figure : Figure) → may_be_last figure ≡ true
         → Short (length held) (Both level (modes.Number figure) held)
     final_short figure final =
         let (l, is, few) = after_short held in
-        (l, (joined [] l (figure_done figure final) is.0 refl, is.1), few)
+        (l, (then_of_parts [] l (figure_done figure final) is.0 refl, is.1), few)
 
     number_short : (figure : Figure)
         → Short (length held + 1) (Both level (modes.Number figure) held)
@@ -163,8 +163,8 @@ module _ (level : ℕ) where
         let front = letters_of letters in (
           front ++ l,
           (
-            joined front l refl is.0 refl,
-            IsUtf8-append front l (low_utf8 front (letters_low letters)) is.1,
+            then_of_parts front l refl is.0 refl,
+            IsUtf8-append front l (ascii_is_utf8 front (letters_low letters)) is.1,
           ),
           omega (arith, few, letters_few letters, length-append front l),
         )

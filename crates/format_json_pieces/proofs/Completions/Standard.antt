@@ -5,26 +5,26 @@ use Rattle.std.proofs.Common.{arith, ap, length-append, refl}
 use Rattle.std.proofs.lemmas.List.Elements.{All-weaker}
 use Rattle.stream_sets.specs.AsChar.{IsMultispace}
 use Rattle.format_json_extents.proofs.Written.Values.{texts_written, values_written}
-use Rattle.format_json_extents.specs.Value.{IsSpace}
+use Rattle.format_json_extents.specs.Value.{IsWhitespaceByte}
 use Rattle.format_json_texts.specs.declared.value.Value.{Value}
 use Rattle.format_json_pieces.proofs.Completions.Texts.{HasValue, found_value, text_goes_on}
 use Rattle.format_json_pieces.proofs.Completions.Texts.{value_goes_on}
 use Rattle.format_json_pieces.proofs.Passing.{text_begun}
-use Rattle.format_json_pieces.specs.Begun.{IsViablePrefix, MayBegin}
+use Rattle.format_json_pieces.specs.Begun.{IsViablePrefix, IsViableText}
 use Rattle.format_json_pieces.specs.Extents.{EndsBefore}
 use Rattle.format_json_pieces.specs.Place.{IsLongestPrefix, IsPlace, IsStopped, NoneGoesOn}
-use Rattle.format_json_pieces.specs.Value.{BeginsText, BeginsValue, InUtf8, IsNext, IsValueIn}
+use Rattle.format_json_pieces.specs.Value.{BeginsText, BeginsValue, InUtf8, IsNextOrNone, IsValueIn}
 use Rattle.format_json_pieces.specs.declared.begun.Bracket.TheVariants.{Whole}
 use Rattle.format_json_pieces.specs.declared.begun.Mode.TheVariants as modes
 use Rattle.format_json_pieces.specs.declared.expected.Expected.{Expected}
 
-white : (b : ℕ) → IsSpace b → IsMultispace b
+white : (b : ℕ) → IsWhitespaceByte b → IsMultispace b
 white b is = grind (arith, is)
 
 module _ {A : Type 0} (alloc : A) (level : ℕ) where
   next_of : (bytes rest : List ℕ) → length bytes < 2 ^ 63 → HasValue level bytes rest
-      → (v : Value A) × IsNext level bytes (Some v) rest
-  unfolding IsNext IsValueIn InUtf8
+      → (v : Value A) × IsNextOrNone level bytes (Some v) rest
+  unfolding IsNextOrNone IsValueIn InUtf8
   next_of bytes rest few it =
       let size : length it.text < 2 ^ 63 =
       omega (
@@ -39,7 +39,7 @@ module _ {A : Type 0} (alloc : A) (level : ℕ) where
         (
           it.gap,
           it.text ++ rest,
-          All-weaker IsSpace IsMultispace white it.gap it.is_gap,
+          All-weaker IsWhitespaceByte IsMultispace white it.gap it.is_gap,
           it.splits,
           (it.text, (it.is_utf8, written), refl, it.ended),
         ),
@@ -47,7 +47,7 @@ module _ {A : Type 0} (alloc : A) (level : ℕ) where
 
   pub found_by_standard : (bytes rest : List ℕ) → length bytes < 2 ^ 63
       → EndsBefore level modes.Value [] bytes rest
-      → (v : Value A) × IsNext level bytes (Some v) rest
+      → (v : Value A) × IsNextOrNone level bytes (Some v) rest
   found_by_standard bytes rest few x = next_of bytes rest few (found_value level bytes rest x)
 
   pub value_begins_so : (bytes : List ℕ) → length bytes < 2 ^ 61
@@ -58,7 +58,7 @@ module _ {A : Type 0} (alloc : A) (level : ℕ) where
       let (v, is) = next_of (bytes ++ more) rest
       (omega (arith, few, size, length-append bytes more)) has in (more, v, rest, is)
 
-  pub text_begins_so : (bytes : List ℕ) → length bytes < 2 ^ 61 → MayBegin level bytes
+  pub text_begins_so : (bytes : List ℕ) → length bytes < 2 ^ 61 → IsViableText level bytes
       → BeginsText A level bytes
   unfolding InUtf8
   text_begins_so bytes few x =

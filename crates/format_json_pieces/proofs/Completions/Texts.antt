@@ -10,21 +10,22 @@ use Rattle.std.proofs.lemmas.List.{append-nil}
 use Rattle.std.proofs.lemmas.List.Elements.{All-head, All-tail, All-weaker}
 use Rattle.grammars.specs.Texts.{NotFirst}
 use Rattle.format_json_texts.specs.Number.{ContinuesNumber}
-use Rattle.format_json_texts.specs.Values.Texts.{IsNumeric}
-use Rattle.format_json_extents.proofs.Characters.{low_front}
+use Rattle.format_json_texts.specs.Values.Texts.{BeginsNumber}
+use Rattle.format_json_extents.proofs.Characters.{ascii_prefix}
 use Rattle.format_json_extents.proofs.Written.{scalars_parts}
 use Rattle.format_json_extents.specs.Texts.{Then}
-use Rattle.format_json_extents.specs.Value.{IsEnded, IsGap, IsSpace, IsText, IsValue}
+use Rattle.format_json_extents.specs.Value.{IsNotContinued, IsText, IsValue, IsWhitespace}
+use Rattle.format_json_extents.specs.Value.{IsWhitespaceByte}
 use Rattle.format_json_pieces.proofs.Completions.Bytes.{IsClosed, IsFine, step_fine}
 use Rattle.format_json_pieces.proofs.Completions.Numbers.{goes_not}
 use Rattle.format_json_pieces.proofs.Completions.Short.{short}
-use Rattle.format_json_pieces.proofs.Completions.Strings.{if_by}
+use Rattle.format_json_pieces.proofs.Completions.Strings.{if_by_cases}
 use Rattle.format_json_pieces.proofs.Completions.Walked.{Both, outcome, walked_found, walked_to}
-use Rattle.format_json_pieces.specs.Begun.{IsAfterValue, IsNextStep, IsViablePrefix, MayBegin}
-use Rattle.format_json_pieces.specs.Begun.{behind_number, last_open, next_step, number_step}
-use Rattle.format_json_pieces.specs.Begun.{others_open, value_step}
+use Rattle.format_json_pieces.specs.Begun.{HoldsAfterStep, HoldsAfterValue, IsViablePrefix}
+use Rattle.format_json_pieces.specs.Begun.{IsViableText, last_open, next_step, number_step}
+use Rattle.format_json_pieces.specs.Begun.{others_open, step_after_number, value_step}
 use Rattle.format_json_pieces.specs.Extents.{EndsBefore}
-use Rattle.format_json_pieces.specs.Inside.{figure_behind, goes_on, is_final}
+use Rattle.format_json_pieces.specs.Inside.{continues_number, figure_behind, may_be_last}
 use Rattle.format_json_pieces.specs.declared.begun.Bracket.{Bracket}
 use Rattle.format_json_pieces.specs.declared.begun.Bracket.TheVariants as kinds
 use Rattle.format_json_pieces.specs.declared.begun.Mode.{Mode}
@@ -40,14 +41,15 @@ module _ (level : ℕ) (rest : List ℕ) where
   module _ (b : ℕ) (bytes : List ℕ) (on : (figure : Figure)
       → EndsBefore level (modes.Number figure) [] bytes rest → NotFirst ContinuesNumber rest) where
     number_stops : (next : Option Figure) (figure : Figure)
-        → IsNextStep (b ∷ bytes ≡ rest) (bytes ≡ rest) (λ m o. EndsBefore level m o bytes rest)
+        → HoldsAfterStep (b ∷ bytes ≡ rest) (bytes ≡ rest) (λ m o. EndsBefore level m o bytes rest)
         level
-        [] (number_step next (is_final figure) None b) → NotFirst ContinuesNumber rest
+        [] (number_step next (may_be_last figure) None b) → NotFirst ContinuesNumber rest
     number_stops (Some next) figure x = on next x
     number_stops None figure x =
-        (if_by (λ s. IsNextStep (b ∷ bytes ≡ rest) (bytes ≡ rest)
+        (if_by_cases (λ s. HoldsAfterStep (b ∷ bytes ≡ rest) (bytes ≡ rest)
         (λ m o. EndsBefore level m o bytes rest) level [] s → NotFirst ContinuesNumber rest)
-        (not (is_final figure) || goes_on b) steps.Invalid (behind_number None b) (λ e y. absurd y)
+        (not (may_be_last figure) || continues_number b) steps.Invalid
+        (step_after_number None b) (λ e y. absurd y)
         (λ e y. subst (λ l. NotFirst ContinuesNumber l) y (goes_not b (grind (arith, e))))) x
 
   number_ended : (bytes : List ℕ) (figure : Figure)
@@ -56,7 +58,7 @@ module _ (level : ℕ) (rest : List ℕ) where
   number_ended (b ∷ bytes) figure x =
       number_stops b bytes (λ f. number_ended bytes f) (figure_behind figure b) figure x
 
-  leads_number : (c : ℕ) → IsNumeric c
+  leads_number : (c : ℕ) → BeginsNumber c
       → (figure : Figure) × (value_step modes.Value c ≡ steps.Goes (modes.Number figure))
   leads_number c (inl e) = (figures.Minus, grind (arith, nat_tests, e))
   leads_number c (inr is) = by (c == 48) refl
@@ -67,20 +69,20 @@ module _ (level : ℕ) (rest : List ℕ) where
       by false e = (figures.Whole, grind (arith, nat_tests, e, is))
 
   -- after whitespace
-  value_ended : (gap : List ℕ) → IsGap gap → (text : List ℕ)
-      → EndsBefore level modes.Value [] (gap ++ (text ++ rest)) rest → IsEnded text rest
+  value_ended : (gap : List ℕ) → IsWhitespace gap → (text : List ℕ)
+      → EndsBefore level modes.Value [] (gap ++ (text ++ rest)) rest → IsNotContinued text rest
   value_ended [] all [] x = λ starts. absurd starts
   value_ended [] all (c ∷ text) x = λ starts.
       let (figure, e) = leads_number c starts in
       number_ended (text ++ rest) figure
-      (subst (λ s. IsNextStep (c ∷ (text ++ rest) ≡ rest) (text ++ rest ≡ rest)
+      (subst (λ s. HoldsAfterStep (c ∷ (text ++ rest) ≡ rest) (text ++ rest ≡ rest)
       (λ m o. EndsBefore level m o (text ++ rest) rest) level [] s) e x)
   value_ended (b ∷ gap) all text x =
       let e : value_step modes.Value b ≡ steps.Goes modes.Value =
-      grind (arith, nat_tests, All-head IsSpace b gap all) in
+      grind (arith, nat_tests, All-head IsWhitespaceByte b gap all) in
       let bytes : List ℕ = gap ++ (text ++ rest) in
-      value_ended gap (All-tail IsSpace b gap all) text
-      (subst (λ s. IsNextStep (b ∷ bytes ≡ rest) (bytes ≡ rest)
+      value_ended gap (All-tail IsWhitespaceByte b gap all) text
+      (subst (λ s. HoldsAfterStep (b ∷ bytes ≡ rest) (bytes ≡ rest)
       (λ m o. EndsBefore level m o bytes rest) level [] s) e x)
 
 -- ---- a value after whitespace
@@ -89,24 +91,24 @@ module _ (level : ℕ) (rest : List ℕ) where
 pub record HasValue (level : ℕ) (bytes rest : List ℕ) : Type 0 where
   pub gap : List ℕ
   pub text : List ℕ
-  pub is_gap : IsGap gap
+  pub is_gap : IsWhitespace gap
   pub is_value : IsValue level text
   pub is_utf8 : IsUtf8 text
   pub splits : bytes ≡ gap ++ (text ++ rest)
-  pub ended : IsEnded text rest
+  pub ended : IsNotContinued text rest
 
-space_low : (b : ℕ) → IsSpace b → b < 128
+space_low : (b : ℕ) → IsWhitespaceByte b → b < 128
 space_low b is = grind (arith, is)
 
-utf8_behind : (gap text : List ℕ) → IsGap gap → IsUtf8 (gap ++ text) → IsUtf8 text
+utf8_behind : (gap text : List ℕ) → IsWhitespace gap → IsUtf8 (gap ++ text) → IsUtf8 text
 utf8_behind gap text all (cs, (scalars, e)) =
-    let (es, f, g) = low_front gap cs text
-    (All-weaker IsSpace (λ b. b < 128) space_low gap all) e in
+    let (es, f, g) = ascii_prefix gap cs text
+    (All-weaker IsWhitespaceByte (λ b. b < 128) space_low gap all) e in
     (es, ((scalars_parts gap es (subst (λ l. all_scalars l ≡ true) f scalars)).1, g))
 
 module _ (level : ℕ) where
   has_value : (bytes rest text : List ℕ) → bytes ≡ text ++ rest → Both level modes.Value [] text
-      → ((gap value : List ℕ) → IsGap gap → text ≡ gap ++ value → IsEnded value rest)
+      → ((gap value : List ℕ) → IsWhitespace gap → text ≡ gap ++ value → IsNotContinued value rest)
       → HasValue level bytes rest
   has_value bytes rest text e (is, utf8) ended =
       let value = is.is_second in
@@ -169,7 +171,7 @@ module _ (level : ℕ) (rest : List ℕ) where
   module _ (b : ℕ) (bytes : List ℕ) (on : (mode : Mode) (held : List Bracket) → IsInWhole held
       → EndsBefore level mode held bytes rest → ⊥) where
     after_none : (held : List Bracket) → IsInWhole held
-        → IsAfterValue (bytes ≡ rest) (λ m o. EndsBefore level m o bytes rest) held → ⊥
+        → HoldsAfterValue (bytes ≡ rest) (λ m o. EndsBefore level m o bytes rest) held → ⊥
     after_none [] is x = absurd is
     after_none (k ∷ held) is x = on modes.After (k ∷ held) is x
 
@@ -187,7 +189,7 @@ module _ (level : ℕ) (rest : List ℕ) where
 
     step_none : (mode : Mode) (held : List Bracket) (s : Step) → IsInWhole held
         → IsFine level mode held s
-        → IsNextStep (b ∷ bytes ≡ rest) (bytes ≡ rest) (λ m o. EndsBefore level m o bytes rest)
+        → HoldsAfterStep (b ∷ bytes ≡ rest) (bytes ≡ rest) (λ m o. EndsBefore level m o bytes rest)
         level held s → ⊥
     step_none mode held steps.Invalid is fine x = x
     step_none mode held steps.Ended is fine x = not_here held is fine.0
@@ -210,7 +212,7 @@ module _ (level : ℕ) (rest : List ℕ) where
       is (step_fine level b mode held) x
 
 -- Bytes that the walk over a text accepts go on to a text, with not many bytes more.
-pub text_goes_on : (level : ℕ) (bytes : List ℕ) → MayBegin level bytes
+pub text_goes_on : (level : ℕ) (bytes : List ℕ) → IsViableText level bytes
     → (more : List ℕ) × IsText level (bytes ++ more) × IsUtf8 (bytes ++ more)
     × (length more ≤ length bytes + 16)
 text_goes_on level bytes x =
@@ -222,7 +224,8 @@ text_goes_on level bytes x =
           let (completes, utf8) =
           walked_to (suc level) last inner more is bytes modes.Value (kinds.Whole ∷ []) y in (
             more,
-            subst (λ n. Then IsGap (Then (IsValue n) IsGap) (bytes ++ more)) (omega arith)
+            subst (λ n. Then IsWhitespace (Then (IsValue n) IsWhitespace) (bytes ++ more))
+                (omega arith)
                 completes,
             utf8,
             omega (arith, few, size),

@@ -8,11 +8,12 @@ use Rattle.std.proofs.Common.{ap, arith, refl, subst, sym, ◌∙◌}
 use Rattle.std.proofs.lemmas.Bool.Decides.{nat_tests}
 use Rattle.std.proofs.lemmas.Str.{IsUtf8-append, IsUtf8-encode, encode_ascii}
 use Rattle.streams.specs.Utf8.{four_bytes, three_bytes, two_bytes}
-use Rattle.format_json_extents.proofs.Matching.{byte_then, joined, one}
+use Rattle.format_json_extents.proofs.Matching.{byte_then_is_cons, one_byte_text, then_of_parts}
 use Rattle.format_json_extents.specs.Texts.{IsByte, Then}
-use Rattle.format_json_pieces.proofs.Completions.Strings.{if_by}
-use Rattle.format_json_pieces.specs.Inside.{is_hex, is_high, is_low, is_short, lead_behind}
-use Rattle.format_json_pieces.specs.Inside.{part_behind, part_where, plain_behind}
+use Rattle.format_json_pieces.proofs.Completions.Strings.{if_by_cases}
+use Rattle.format_json_pieces.specs.Inside.{is_escaped_byte, is_hex_digit, is_high_surrogate_digit}
+use Rattle.format_json_pieces.specs.Inside.{is_low_surrogate_digit, lead_behind, part_behind}
+use Rattle.format_json_pieces.specs.Inside.{part_if, plain_behind}
 use Rattle.format_json_pieces.specs.declared.inside.Inner.{Inner}
 use Rattle.format_json_pieces.specs.declared.inside.Inner.TheVariants as inners
 use Rattle.format_json_pieces.specs.declared.inside.Part.{Part}
@@ -121,7 +122,7 @@ module _ (b : ℕ) (text : List ℕ) where
   abbrev In : Inner → Type 0
   In inner = Utf8Inner inner text
 
-  where_in : (test : Bool) (part : Part) → In (part_where test part)
+  where_in : (test : Bool) (part : Part) → In (part_if test part)
       → (test ≡ true) × Utf8Part part text
   where_in true part x = (refl, x)
   where_in false part x = absurd x
@@ -130,7 +131,8 @@ module _ (b : ℕ) (text : List ℕ) where
       → ((nat_le low b && nat_lt b high) ≡ true) × R text
       → Then (IsByte (Within low high)) R (b ∷ text)
   tail_in low high (e, x) =
-      joined (b ∷ []) text (one (grind (arith, nat_tests, e), grind (arith, nat_tests, e)) refl) x
+      then_of_parts (b ∷ []) text
+      (one_byte_text (grind (arith, nat_tests, e), grind (arith, nat_tests, e)) refl) x
       refl
 
   low_in : b < 128 → IsUtf8 text → IsUtf8 (b ∷ text)
@@ -138,7 +140,7 @@ module _ (b : ℕ) (text : List ℕ) where
 
   two_in : 194 ≤ b → b < 224 → OneMore text → IsUtf8 (b ∷ text)
   two_in low high x =
-      subst (λ l. IsUtf8 (b ∷ l)) (sym (byte_then x))
+      subst (λ l. IsUtf8 (b ∷ l)) (sym (byte_then_is_cons x))
       (utf8_two b x.is_first.byte x.second low high x.is_first.is_byte.0 x.is_first.is_byte.1
       x.is_second)
 
@@ -147,7 +149,8 @@ module _ (b : ℕ) (text : List ℕ) where
   three_in from to least most low high long scalar x =
       let y = x.is_second in
       let (above, below) = x.is_first.is_byte in
-      subst (λ l. IsUtf8 (b ∷ l)) (sym (byte_then x ∙ ap (λ l. x.is_first.byte ∷ l) (byte_then y)))
+      subst (λ l. IsUtf8 (b ∷ l))
+      (sym (byte_then_is_cons x ∙ ap (λ l. x.is_first.byte ∷ l) (byte_then_is_cons y)))
       (utf8_three b x.is_first.byte y.is_first.byte y.second low high (omega (arith, least, above))
       (omega (arith, most, below)) y.is_first.is_byte.0 y.is_first.is_byte.1
       (λ e. omega (arith, long e, above)) (λ e. omega (arith, scalar e, below)) y.is_second)
@@ -158,8 +161,9 @@ module _ (b : ℕ) (text : List ℕ) where
       let y = x.is_second in
       let z = y.is_second in
       let (above, below) = x.is_first.is_byte in
-      subst (λ l. IsUtf8 (b ∷ l)) (sym (byte_then x ∙ ap (λ l. x.is_first.byte ∷ l) (byte_then y
-      ∙ ap (λ l. y.is_first.byte ∷ l) (byte_then z))))
+      subst (λ l. IsUtf8 (b ∷ l))
+      (sym (byte_then_is_cons x ∙ ap (λ l. x.is_first.byte ∷ l) (byte_then_is_cons y
+      ∙ ap (λ l. y.is_first.byte ∷ l) (byte_then_is_cons z))))
       (utf8_four b x.is_first.byte y.is_first.byte z.is_first.byte z.second low high
       (omega (arith, least, above)) (omega (arith, most, below)) y.is_first.is_byte.0
       y.is_first.is_byte.1 z.is_first.is_byte.0 z.is_first.is_byte.1
@@ -167,25 +171,25 @@ module _ (b : ℕ) (text : List ℕ) where
 
   lead_in : 128 ≤ b → In (lead_behind b) → IsUtf8 (b ∷ text)
   lead_in high =
-      if_by P (nat_lt b 194) _ _ (λ e x. absurd x) (λ e1.
-      if_by P (nat_lt b 224) _ _ (λ e x. two_in (grind (arith, nat_tests, e1))
+      if_by_cases P (nat_lt b 194) _ _ (λ e x. absurd x) (λ e1.
+      if_by_cases P (nat_lt b 224) _ _ (λ e x. two_in (grind (arith, nat_tests, e1))
       (grind (arith, nat_tests, e)) x) (λ e2.
-      if_by P (b == 224) _ _ (λ e x. three_in 160 192 (omega arith) (omega arith)
+      if_by_cases P (b == 224) _ _ (λ e x. three_in 160 192 (omega arith) (omega arith)
       (grind (arith, nat_tests, e)) (grind (arith, nat_tests, e)) (λ f. omega arith)
       (λ f. grind (arith, nat_tests, e, f)) x) (λ e3.
-      if_by P (b == 237) _ _ (λ e x. three_in 128 160 (omega arith) (omega arith)
+      if_by_cases P (b == 237) _ _ (λ e x. three_in 128 160 (omega arith) (omega arith)
       (grind (arith, nat_tests, e)) (grind (arith, nat_tests, e))
       (λ f. grind (arith, nat_tests, e, f)) (λ f. omega arith) x) (λ e4.
-      if_by P (nat_lt b 240) _ _ (λ e x. three_in 128 192 (omega arith) (omega arith)
+      if_by_cases P (nat_lt b 240) _ _ (λ e x. three_in 128 192 (omega arith) (omega arith)
       (grind (arith, nat_tests, e2)) (grind (arith, nat_tests, e))
       (λ f. grind (arith, nat_tests, e3, f)) (λ f. grind (arith, nat_tests, e4, f)) x) (λ e5.
-      if_by P (b == 240) _ _ (λ e x. four_in 144 192 (omega arith) (omega arith)
+      if_by_cases P (b == 240) _ _ (λ e x. four_in 144 192 (omega arith) (omega arith)
       (grind (arith, nat_tests, e)) (grind (arith, nat_tests, e)) (λ f. omega arith)
       (λ f. grind (arith, nat_tests, e, f)) x) (λ e6.
-      if_by P (nat_lt b 244) _ _ (λ e x. four_in 128 192 (omega arith) (omega arith)
+      if_by_cases P (nat_lt b 244) _ _ (λ e x. four_in 128 192 (omega arith) (omega arith)
       (grind (arith, nat_tests, e5)) (grind (arith, nat_tests, e))
       (λ f. grind (arith, nat_tests, e6, f)) (λ f. grind (arith, nat_tests, e, f)) x) (λ e7.
-      if_by P (b == 244) _ _ (λ e x. four_in 128 144 (omega arith) (omega arith)
+      if_by_cases P (b == 244) _ _ (λ e x. four_in 128 144 (omega arith) (omega arith)
       (grind (arith, nat_tests, e)) (grind (arith, nat_tests, e))
       (λ f. grind (arith, nat_tests, e, f)) (λ f. omega arith) x) (λ e x. absurd x))))))))
     where
@@ -194,43 +198,45 @@ module _ (b : ℕ) (text : List ℕ) where
 
   plain_in : In (plain_behind b) → IsUtf8 (b ∷ text)
   plain_in =
-      if_by P (b == 34) _ _ (λ e x. low_in (grind (arith, nat_tests, e)) x) (λ quote.
-      if_by P (b == 92) _ _ (λ e x. low_in (grind (arith, nat_tests, e)) x) (λ slash.
-      if_by P (nat_lt b 32) _ _ (λ e x. absurd x) (λ least.
-      if_by P (nat_lt b 128) _ _ (λ e x. low_in (grind (arith, nat_tests, e)) x)
+      if_by_cases P (b == 34) _ _ (λ e x. low_in (grind (arith, nat_tests, e)) x) (λ quote.
+      if_by_cases P (b == 92) _ _ (λ e x. low_in (grind (arith, nat_tests, e)) x) (λ slash.
+      if_by_cases P (nat_lt b 32) _ _ (λ e x. absurd x) (λ least.
+      if_by_cases P (nat_lt b 128) _ _ (λ e x. low_in (grind (arith, nat_tests, e)) x)
       (λ e x. lead_in (grind (arith, nat_tests, e)) x))))
     where
       P : Inner → Type 0
       P inner = In inner → IsUtf8 (b ∷ text)
 
-  hex_low : is_hex b ≡ true → b < 128
+  hex_low : is_hex_digit b ≡ true → b < 128
   hex_low e = grind (arith, nat_tests, e)
 
   part_low : (test : Bool) → (test ≡ true → b < 128) → (part : Part)
-      → (Utf8Part part text → IsUtf8 text) → In (part_where test part) → IsUtf8 (b ∷ text)
+      → (Utf8Part part text → IsUtf8 text) → In (part_if test part) → IsUtf8 (b ∷ text)
   part_low test low part same x = let (e, y) = where_in test part x in low_in (low e) (same y)
 
   -- A byte of a string, in front of what makes UTF-8 of the bytes before.
   pub part_utf8 : (part : Part) → In (part_behind part b) → Utf8Part part (b ∷ text)
   part_utf8 parts.Plain x = plain_in x
   part_utf8 parts.Escape x =
-      if_by (λ i. In i → IsUtf8 (b ∷ text)) (b == 117) _ _
+      if_by_cases (λ i. In i → IsUtf8 (b ∷ text)) (b == 117) _ _
       (λ e y. low_in (grind (arith, nat_tests, e)) y)
-      (λ e y. part_low (is_short b) (λ f. grind (arith, nat_tests, f)) parts.Plain (λ z. z) y) x
-  part_utf8 parts.Unit x =
-      if_by (λ i. In i → IsUtf8 (b ∷ text)) (b == 68 || b == 100) _ _
-      (λ e y. low_in (grind (arith, nat_tests, e)) y)
-      (λ e y. part_low (is_hex b) hex_low parts.Three (λ z. z) y) x
-  part_utf8 parts.BehindD x =
-      if_by (λ i. In i → IsUtf8 (b ∷ text)) (is_high b) _ _
-      (λ e y. low_in (grind (arith, nat_tests, e)) y)
-      (λ e y. part_low (is_hex b && not (is_low b)) (λ f. grind (arith, nat_tests, f)) parts.Two
+      (λ e y. part_low (is_escaped_byte b) (λ f. grind (arith, nat_tests, f)) parts.Plain
       (λ z. z) y) x
-  part_utf8 parts.Three x = part_low (is_hex b) hex_low parts.Two (λ z. z) x
-  part_utf8 parts.Two x = part_low (is_hex b) hex_low parts.One (λ z. z) x
-  part_utf8 parts.One x = part_low (is_hex b) hex_low parts.Plain (λ z. z) x
-  part_utf8 parts.HighTwo x = part_low (is_hex b) hex_low parts.HighOne (λ z. z) x
-  part_utf8 parts.HighOne x = part_low (is_hex b) hex_low parts.Backslash (λ z. z) x
+  part_utf8 parts.Unit x =
+      if_by_cases (λ i. In i → IsUtf8 (b ∷ text)) (b == 68 || b == 100) _ _
+      (λ e y. low_in (grind (arith, nat_tests, e)) y)
+      (λ e y. part_low (is_hex_digit b) hex_low parts.Three (λ z. z) y) x
+  part_utf8 parts.AfterSurrogateD x =
+      if_by_cases (λ i. In i → IsUtf8 (b ∷ text)) (is_high_surrogate_digit b) _ _
+      (λ e y. low_in (grind (arith, nat_tests, e)) y)
+      (λ e y. part_low (is_hex_digit b && not (is_low_surrogate_digit b))
+      (λ f. grind (arith, nat_tests, f)) parts.Two
+      (λ z. z) y) x
+  part_utf8 parts.Three x = part_low (is_hex_digit b) hex_low parts.Two (λ z. z) x
+  part_utf8 parts.Two x = part_low (is_hex_digit b) hex_low parts.One (λ z. z) x
+  part_utf8 parts.One x = part_low (is_hex_digit b) hex_low parts.Plain (λ z. z) x
+  part_utf8 parts.HighTwo x = part_low (is_hex_digit b) hex_low parts.HighOne (λ z. z) x
+  part_utf8 parts.HighOne x = part_low (is_hex_digit b) hex_low parts.Backslash (λ z. z) x
   part_utf8 parts.Backslash x =
       part_low (b == 92) (λ f. grind (arith, nat_tests, f)) parts.LetterU (λ z. z) x
   part_utf8 parts.LetterU x =
@@ -238,7 +244,7 @@ module _ (b : ℕ) (text : List ℕ) where
   part_utf8 parts.LowD x =
       part_low (b == 68 || b == 100) (λ f. grind (arith, nat_tests, f)) parts.LowSecond (λ z. z) x
   part_utf8 parts.LowSecond x =
-      part_low (is_low b) (λ f. grind (arith, nat_tests, f)) parts.Two (λ z. z) x
+      part_low (is_low_surrogate_digit b) (λ f. grind (arith, nat_tests, f)) parts.Two (λ z. z) x
   part_utf8 parts.TailOne x = tail_in 128 192 (where_in _ parts.Plain x)
   part_utf8 parts.TailTwo x = tail_in 128 192 (where_in _ parts.TailOne x)
   part_utf8 parts.TailThree x = tail_in 128 192 (where_in _ parts.TailTwo x)

@@ -3,27 +3,26 @@ use Rattle.std.specs.Prelude.{◌≡◌, ◌-◌, ◌<◌, ◌==◌, ◌&&◌, �
 use Rattle.std.specs.Prelude.{Bool, List, None, Option, Some, false, length, nat_le, not, true}
 use Rattle.std.proofs.Common.{ap, arith, inl, inr, refl, subst, sym, ◌∙◌}
 use Rattle.std.proofs.lemmas.Bool.Decides.{nat_tests}
-use Rattle.format_json_extents.proofs.Matching.{joined, one}
+use Rattle.format_json_extents.proofs.Matching.{one_byte_text, then_of_parts}
 use Rattle.format_json_extents.specs.Strings.{IsString}
 use Rattle.format_json_extents.specs.Number.{IsNumber}
 use Rattle.format_json_extents.specs.Texts.{Then}
-use Rattle.format_json_extents.specs.Value.{IsClosing, IsGap}
-use Rattle.format_json_extents.specs.Value.{IsItemsTail, IsNested, IsNestedTail}
-use Rattle.format_json_extents.specs.Value.{IsScalar, IsValue, IsWord, Only}
+use Rattle.format_json_extents.specs.Value.{Exactly, IsClosing, IsItemsTail, IsNested, IsNestedTail}
+use Rattle.format_json_extents.specs.Value.{IsScalar, IsValue, IsWhitespace, IsWord}
 use Rattle.format_json_pieces.proofs.Completions.{Completes, CompletesAfter, CompletesColon}
 use Rattle.format_json_pieces.proofs.Completions.{CompletesFigure, CompletesFirst, CompletesHere}
 use Rattle.format_json_pieces.proofs.Completions.{CompletesItem, CompletesValue}
 use Rattle.format_json_pieces.proofs.Completions.{InBrackets, IsAfterItem, IsComma, first_as}
 use Rattle.format_json_pieces.proofs.Completions.{in_front, letters_of, second_as, then_left}
 use Rattle.format_json_pieces.proofs.Completions.Numbers.{CompletesNext, figure_back, figure_done}
-use Rattle.format_json_pieces.proofs.Completions.Strings.{InnerThen, if_by}
-use Rattle.format_json_pieces.proofs.Completions.Strings.{inner_back, part_back}
-use Rattle.format_json_pieces.specs.Begun.{IsAfterValue, IsNextStep, after_step, first_step, is_gap}
-use Rattle.format_json_pieces.specs.Begun.{item_step, last_open, letters_step, name_step}
-use Rattle.format_json_pieces.specs.Begun.{next_step, number_step, value_step}
-use Rattle.format_json_pieces.specs.Begun.{behind_number, within_name, within_text, word_step}
-use Rattle.format_json_pieces.specs.Inside.{expected, figure_behind, goes_on, is_final}
-use Rattle.format_json_pieces.specs.Inside.{letters_behind, part_behind}
+use Rattle.format_json_pieces.proofs.Completions.Strings.{InnerThen, if_by_cases, inner_back}
+use Rattle.format_json_pieces.proofs.Completions.Strings.{part_back}
+use Rattle.format_json_pieces.specs.Begun.{HoldsAfterValue, HoldsAfterStep, after_step, first_step}
+use Rattle.format_json_pieces.specs.Begun.{is_whitespace, item_step, last_open, letters_step}
+use Rattle.format_json_pieces.specs.Begun.{name_step, next_step, number_step, value_step}
+use Rattle.format_json_pieces.specs.Begun.{step_after_number, step_in_name, step_in_text, word_step}
+use Rattle.format_json_pieces.specs.Inside.{continues_number, expected_letter, figure_behind}
+use Rattle.format_json_pieces.specs.Inside.{letters_behind, may_be_last, part_behind}
 use Rattle.format_json_pieces.specs.declared.begun.Bracket.{Bracket}
 use Rattle.format_json_pieces.specs.declared.begun.Bracket.TheVariants as kinds
 use Rattle.format_json_pieces.specs.declared.begun.Mode.{Mode}
@@ -50,21 +49,22 @@ nested n m e l is = subst (λ k. IsValue k l) (sym e) (inr is)
 module _ (level b : ℕ) (text : List ℕ) where
   -- the step leads to where `text` completes the value
   abbrev pub Leads : List Bracket → Step → Type 0
-  Leads held step = IsNextStep ⊥ (text ≡ []) (λ m o. Completes level m o text) level held step
+  Leads held step = HoldsAfterStep ⊥ (text ≡ []) (λ m o. Completes level m o text) level held step
 
-  after_value : (held : List Bracket) → IsAfterValue (text ≡ []) (λ m o. Completes level m o text)
+  after_value : (held : List Bracket)
+      → HoldsAfterValue (text ≡ []) (λ m o. Completes level m o text)
       held → CompletesAfter level held text
   after_value [] x = x
   after_value (k ∷ held) x = x
 
   module _ (mode : Mode) (held : List Bracket) (Goal : Type 0)
-      (stays : is_gap b ≡ true → Completes level mode held text → Goal)
+      (stays : is_whitespace b ≡ true → Completes level mode held text → Goal)
       (found : CompletesHere level held (b ∷ text) → Goal) where
     abbrev Case : Step → Type 0
     Case step = Leads held step → Goal
 
     word_found : (word : List ℕ) → ((l : List ℕ) → l ≡ word → IsWord (b ∷ l))
-        → Then (Only word) (CompletesAfter level held) text → Goal
+        → Then (Exactly word) (CompletesAfter level held) text → Goal
     word_found word is x =
         found (in_front (b ∷ []) (λ l e. scalar _ (b ∷ l) (inr (inr (is l e)))) x)
 
@@ -79,31 +79,39 @@ module _ (level b : ℕ) (text : List ℕ) where
 
     value_back : Case (value_step mode b)
     value_back =
-        if_by Case (is_gap b) _ _ (λ e x. stays e x) (λ gap.
-        if_by Case (b == 34) _ _ (λ e x. found (in_front (b ∷ [])
-        (λ l y. scalar _ (b ∷ l) (inl (joined (b ∷ []) l
-        (one (grind (arith, nat_tests, e)) refl) y refl))) x)) (λ e34.
-        if_by Case (b == 91) _ _ (λ e x. found (in_front (b ∷ []) (λ l y. nested _ _ (inner x.0)
-        (b ∷ l) (inl (joined (b ∷ []) l (one (grind (arith, nat_tests, e)) refl) y refl))) x.1))
+        if_by_cases Case (is_whitespace b) _ _ (λ e x. stays e x) (λ gap.
+        if_by_cases Case (b == 34) _ _ (λ e x. found (in_front (b ∷ [])
+        (λ l y. scalar _ (b ∷ l) (inl (then_of_parts (b ∷ []) l
+        (one_byte_text (grind (arith, nat_tests, e)) refl) y refl))) x)) (λ e34.
+        if_by_cases Case (b == 91) _ _
+        (λ e x. found (in_front (b ∷ []) (λ l y. nested _ _ (inner x.0)
+        (b ∷ l) (inl
+        (then_of_parts (b ∷ []) l (one_byte_text (grind (arith, nat_tests, e)) refl) y
+        refl))) x.1))
         (λ e91.
-        if_by Case (b == 123) _ _ (λ e x. found (in_front (b ∷ []) (λ l y. nested _ _ (inner x.0)
-        (b ∷ l) (inr (joined (b ∷ []) l (one (grind (arith, nat_tests, e)) refl) y refl))) x.1))
+        if_by_cases Case (b == 123) _ _
+        (λ e x. found (in_front (b ∷ []) (λ l y. nested _ _ (inner x.0)
+        (b ∷ l) (inr
+        (then_of_parts (b ∷ []) l (one_byte_text (grind (arith, nat_tests, e)) refl) y
+        refl))) x.1))
         (λ e123.
-        if_by Case (b == 102) _ _ (λ e x. word_found (letters_of words.Alse)
+        if_by_cases Case (b == 102) _ _ (λ e x. word_found (letters_of words.Alse)
         (λ l f. inr (inr (first_of_two e f))) x) (λ e102.
-        if_by Case (b == 110) _ _ (λ e x. word_found (letters_of words.Ull)
+        if_by_cases Case (b == 110) _ _ (λ e x. word_found (letters_of words.Ull)
         (λ l f. inl (first_of_two e f)) x) (λ e110.
-        if_by Case (b == 116) _ _ (λ e x. word_found (letters_of words.Rue)
+        if_by_cases Case (b == 116) _ _ (λ e x. word_found (letters_of words.Rue)
         (λ l f. inr (inl (first_of_two e f))) x) (λ e116.
-        if_by Case (b == 45) _ _ (λ e x. number_found figures.Minus
-        (λ l y. joined (b ∷ []) l (inr (one (grind (arith, nat_tests, e)) refl)) y refl) x) (λ e45.
-        if_by Case (b == 48) _ _ (λ e x. number_found figures.Zero
-        (λ l y. joined [] (b ∷ l) (inl refl)
-        (joined (b ∷ []) l (inl (one (grind (arith, nat_tests, e)) refl)) y refl) refl) x) (λ e48.
-        if_by Case (nat_le 49 b && nat_le b 57) _ _ (λ e x. number_found figures.Whole
-        (λ l y. joined [] (b ∷ l) (inl refl)
-        (in_front (b ∷ []) (λ m all. inr (joined (b ∷ []) m
-        (one (grind (arith, nat_tests, e)) refl) all refl)) y) refl) x)
+        if_by_cases Case (b == 45) _ _ (λ e x. number_found figures.Minus
+        (λ l y. then_of_parts (b ∷ []) l
+        (inr (one_byte_text (grind (arith, nat_tests, e)) refl)) y refl) x) (λ e45.
+        if_by_cases Case (b == 48) _ _ (λ e x. number_found figures.Zero
+        (λ l y. then_of_parts [] (b ∷ l) (inl refl)
+        (then_of_parts (b ∷ []) l (inl (one_byte_text (grind (arith, nat_tests, e)) refl)) y
+        refl) refl) x) (λ e48.
+        if_by_cases Case (nat_le 49 b && nat_le b 57) _ _ (λ e x. number_found figures.Whole
+        (λ l y. then_of_parts [] (b ∷ l) (inl refl)
+        (in_front (b ∷ []) (λ m all. inr (then_of_parts (b ∷ []) m
+        (one_byte_text (grind (arith, nat_tests, e)) refl) all refl)) y) refl) x)
         (λ e x. absurd x))))))))))
       where
         first_of_two : {c : ℕ} {l word : List ℕ} → b == c ≡ true → l ≡ word → b ∷ l ≡ c ∷ word
@@ -112,16 +120,17 @@ module _ (level b : ℕ) (text : List ℕ) where
             ap (λ n. n ∷ l) same ∙ ap (λ m. c ∷ m) f
 
   module _ (mode : Mode) (held : List Bracket) (Goal : Type 0)
-      (stays : is_gap b ≡ true → Completes level mode held text → Goal)
+      (stays : is_whitespace b ≡ true → Completes level mode held text → Goal)
       (named : Then IsString (CompletesColon level held) (b ∷ text) → Goal) where
     abbrev CaseOfName : Step → Type 0
     CaseOfName step = Leads held step → Goal
 
     name_back : CaseOfName (name_step mode b)
     name_back =
-        if_by CaseOfName (is_gap b) _ _ (λ e x. stays e x) (λ gap.
-        if_by CaseOfName (b == 34) _ _ (λ e x. named (in_front (b ∷ [])
-        (λ l y. joined (b ∷ []) l (one (grind (arith, nat_tests, e)) refl) y refl) x))
+        if_by_cases CaseOfName (is_whitespace b) _ _ (λ e x. stays e x) (λ gap.
+        if_by_cases CaseOfName (b == 34) _ _ (λ e x. named (in_front (b ∷ [])
+        (λ l y. then_of_parts (b ∷ []) l (one_byte_text (grind (arith, nat_tests, e)) refl) y
+        refl) x))
         (λ e x. absurd x))
 
   -- ---- in brackets
@@ -148,27 +157,29 @@ module _ (level b : ℕ) (text : List ℕ) where
   close_first : (keyed : Bool) (V R : List ℕ → Type 0) → IsClosing keyed b → R text
       → Then (IsNestedTail keyed V) R (b ∷ text)
   close_first keyed V R is x =
-      joined (b ∷ []) text (inl (joined [] (b ∷ []) no_gap (one is refl) refl)) x refl
+      then_of_parts (b ∷ []) text
+      (inl (then_of_parts [] (b ∷ []) no_gap (one_byte_text is refl) refl)) x refl
 
   close_after : (keyed : Bool) (V R : List ℕ → Type 0) → IsClosing keyed b → R text
       → Then (IsAfterItem keyed V) R (b ∷ text)
   close_after keyed V R is x =
-      joined (b ∷ []) text (joined [] (b ∷ []) no_gap (inl (one is refl)) refl) x refl
+      then_of_parts (b ∷ []) text
+      (then_of_parts [] (b ∷ []) no_gap (inl (one_byte_text is refl)) refl) x refl
 
   comma_after : (keyed : Bool) (V R : List ℕ → Type 0) → IsComma b
       → Then (IsItemsTail keyed V) R text
       → Then (IsAfterItem keyed V) R (b ∷ text)
   comma_after keyed V R is x =
-      in_front (b ∷ []) (λ l items. joined [] (b ∷ l) no_gap
-      (inr (joined (b ∷ []) l (one is refl) items refl)) refl) x
+      in_front (b ∷ []) (λ l items. then_of_parts [] (b ∷ l) no_gap
+      (inr (then_of_parts (b ∷ []) l (one_byte_text is refl) items refl)) refl) x
 
-  value_gap : (held : List Bracket) → is_gap b ≡ true → CompletesValue level held text
+  value_gap : (held : List Bracket) → is_whitespace b ≡ true → CompletesValue level held text
       → CompletesValue level held (b ∷ text)
   value_gap held e = in_front (b ∷ []) (gap_front b e)
 
   value_first : (held : List Bracket) → CompletesHere level held (b ∷ text)
       → CompletesValue level held (b ∷ text)
-  value_first held x = joined [] (b ∷ text) no_gap x refl
+  value_first held x = then_of_parts [] (b ∷ text) no_gap x refl
 
   item_back : (held : List Bracket) → Leads held (item_step modes.Item (last_open held) b)
       → CompletesItem level held (b ∷ text)
@@ -180,7 +191,7 @@ module _ (level b : ℕ) (text : List ℕ) where
       V : List ℕ → Type 0
       V = InBrackets level (kinds.Array ∷ held)
 
-      in_front_items : is_gap b ≡ true → (l : List ℕ) → IsItemsTail false V l
+      in_front_items : is_whitespace b ≡ true → (l : List ℕ) → IsItemsTail false V l
           → IsItemsTail false V (b ∷ l)
       in_front_items e l = in_front (b ∷ []) (items_gap V false b e)
   item_back (kinds.Object ∷ held) =
@@ -191,7 +202,7 @@ module _ (level b : ℕ) (text : List ℕ) where
       V : List ℕ → Type 0
       V = InBrackets level (kinds.Object ∷ held)
 
-      in_front_items : is_gap b ≡ true → (l : List ℕ) → IsItemsTail true V l
+      in_front_items : is_whitespace b ≡ true → (l : List ℕ) → IsItemsTail true V l
           → IsItemsTail true V (b ∷ l)
       in_front_items e l = in_front (b ∷ []) (items_gap V true b e)
   item_back held =
@@ -201,7 +212,7 @@ module _ (level b : ℕ) (text : List ℕ) where
   first_back : (held : List Bracket) → Leads held (first_step (last_open held) b)
       → CompletesFirst level held (b ∷ text)
   first_back (kinds.Array ∷ held) =
-      if_by (λ s. Leads (kinds.Array ∷ held) s → Goal) (b == 93) _ _
+      if_by_cases (λ s. Leads (kinds.Array ∷ held) s → Goal) (b == 93) _ _
       (λ e x. close_first false _ _ (grind (arith, nat_tests, e)) (after_value held x))
       (λ e. value_back modes.First (kinds.Array ∷ held) Goal
       (λ f. in_front (b ∷ []) (nested_gap V false b f))
@@ -213,7 +224,7 @@ module _ (level b : ℕ) (text : List ℕ) where
       Goal : Type 0
       Goal = CompletesFirst level (kinds.Array ∷ held) (b ∷ text)
   first_back (kinds.Object ∷ held) =
-      if_by (λ s. Leads (kinds.Object ∷ held) s → Goal) (b == 125) _ _
+      if_by_cases (λ s. Leads (kinds.Object ∷ held) s → Goal) (b == 125) _ _
       (λ e x. close_first true _ _ (grind (arith, nat_tests, e)) (after_value held x))
       (λ e. name_back modes.First (kinds.Object ∷ held) Goal
       (λ f. in_front (b ∷ []) (nested_gap V true b f))
@@ -231,27 +242,28 @@ module _ (level b : ℕ) (text : List ℕ) where
   after_back : (k : Bracket) (held : List Bracket) → Leads (k ∷ held) (after_step k b)
       → CompletesAfter level (k ∷ held) (b ∷ text)
   after_back kinds.Whole held =
-      if_by (λ s. Leads (kinds.Whole ∷ held) s → IsGap (b ∷ text)) (is_gap b) _ _
+      if_by_cases (λ s. Leads (kinds.Whole ∷ held) s → IsWhitespace (b ∷ text))
+      (is_whitespace b) _ _
       (λ e x. gap_front b e text x) (λ e x. absurd x)
   after_back kinds.Array held =
-      if_by Case (is_gap b) _ _
+      if_by_cases Case (is_whitespace b) _ _
       (λ e x. in_front (b ∷ []) (λ l. in_front (b ∷ []) (gap_front b e)) x)
       (λ gap.
-      if_by Case (b == 44) _ _ (λ e x. comma_after false _ _ (grind (arith, nat_tests, e)) x)
+      if_by_cases Case (b == 44) _ _ (λ e x. comma_after false _ _ (grind (arith, nat_tests, e)) x)
       (λ comma.
-      if_by Case (b == 93) _ _
+      if_by_cases Case (b == 93) _ _
       (λ e x. close_after false _ _ (grind (arith, nat_tests, e)) (after_value held x))
       (λ e x. absurd x)))
     where
       Case : Step → Type 0
       Case s = Leads (kinds.Array ∷ held) s → CompletesAfter level (kinds.Array ∷ held) (b ∷ text)
   after_back kinds.Object held =
-      if_by Case (is_gap b) _ _
+      if_by_cases Case (is_whitespace b) _ _
       (λ e x. in_front (b ∷ []) (λ l. in_front (b ∷ []) (gap_front b e)) x)
       (λ gap.
-      if_by Case (b == 44) _ _ (λ e x. comma_after true _ _ (grind (arith, nat_tests, e)) x)
+      if_by_cases Case (b == 44) _ _ (λ e x. comma_after true _ _ (grind (arith, nat_tests, e)) x)
       (λ comma.
-      if_by Case (b == 125) _ _
+      if_by_cases Case (b == 125) _ _
       (λ e x. close_after true _ _ (grind (arith, nat_tests, e)) (after_value held x))
       (λ e x. absurd x)))
     where
@@ -260,52 +272,55 @@ module _ (level b : ℕ) (text : List ℕ) where
 
   -- ---- in strings, numbers and words
 
-  text_leads : (held : List Bracket) (inner : Inner) → Leads held (within_text inner)
+  text_leads : (held : List Bracket) (inner : Inner) → Leads held (step_in_text inner)
       → InnerThen (CompletesAfter level held) inner text
   text_leads held inners.Broken x = x
   text_leads held inners.Quote x = after_value held x
   text_leads held (inners.Part part) x = x
 
-  name_leads : (held : List Bracket) (inner : Inner) → Leads held (within_name inner)
+  name_leads : (held : List Bracket) (inner : Inner) → Leads held (step_in_name inner)
       → InnerThen (CompletesColon level held) inner text
   name_leads held inners.Broken x = x
   name_leads held inners.Quote x = x
   name_leads held (inners.Part part) x = x
 
-  behind_back : (held : List Bracket) → Leads held (behind_number (last_open held) b)
+  behind_back : (held : List Bracket) → Leads held (step_after_number (last_open held) b)
       → CompletesAfter level held (b ∷ text)
   behind_back [] x = absurd x
   behind_back (k ∷ held) x = after_back k held x
 
   number_back : (figure : Figure) (held : List Bracket) (next : Option Figure)
       → ((l : List ℕ) → CompletesNext next l → CompletesFigure figure (b ∷ l))
-      → Leads held (number_step next (is_final figure) (last_open held) b)
+      → Leads held (number_step next (may_be_last figure) (last_open held) b)
       → Then (CompletesFigure figure) (CompletesAfter level held) (b ∷ text)
   number_back figure held (Some next) makes x = in_front (b ∷ []) makes x
   number_back figure held None makes x =
-      (if_by (λ s. Leads held s
+      (if_by_cases (λ s. Leads held s
       → Then (CompletesFigure figure) (CompletesAfter level held) (b ∷ text))
-      (not (is_final figure) || goes_on b) _ _ (λ e x. absurd x)
-      (λ e x. joined [] (b ∷ text) (figure_done figure (grind (arith, e))) (behind_back held x)
+      (not (may_be_last figure) || continues_number b) _ _ (λ e x. absurd x)
+      (λ e x. then_of_parts [] (b ∷ text) (figure_done figure (grind (arith, e)))
+      (behind_back held x)
       refl)) x
 
   word_back : (letters : Letters) (held : List Bracket) → Leads held (letters_step letters b)
-      → Then (Only (letters_of letters)) (CompletesAfter level held) (b ∷ text)
+      → Then (Exactly (letters_of letters)) (CompletesAfter level held) (b ∷ text)
   word_back letters held =
-      if_by (λ s. Leads held s
-      → Then (Only (letters_of letters)) (CompletesAfter level held) (b ∷ text))
-      (b == expected letters) _ _
-      (λ e x. subst (λ c. Then (Only (letters_of letters)) (CompletesAfter level held) (c ∷ text))
+      if_by_cases (λ s. Leads held s
+      → Then (Exactly (letters_of letters)) (CompletesAfter level held) (b ∷ text))
+      (b == expected_letter letters) _ _
+      (λ e x. subst (λ c. Then (Exactly (letters_of letters)) (CompletesAfter level held)
+      (c ∷ text))
       (sym (grind (arith, nat_tests, e))) (by letters x)) (λ e x. absurd x)
     where
       by : (letters : Letters) → Leads held (word_step (letters_behind letters))
-          → Then (Only (letters_of letters)) (CompletesAfter level held) (expected letters ∷ text)
+          → Then (Exactly (letters_of letters)) (CompletesAfter level held)
+          (expected_letter letters ∷ text)
       by words.Ull x = in_front (117 ∷ []) (λ l e. ap (λ m. 117 ∷ m) e) x
       by words.Ll x = in_front (108 ∷ []) (λ l e. ap (λ m. 108 ∷ m) e) x
-      by words.L x = joined (108 ∷ []) text refl (after_value held x) refl
+      by words.L x = then_of_parts (108 ∷ []) text refl (after_value held x) refl
       by words.Rue x = in_front (114 ∷ []) (λ l e. ap (λ m. 114 ∷ m) e) x
       by words.Ue x = in_front (117 ∷ []) (λ l e. ap (λ m. 117 ∷ m) e) x
-      by words.E x = joined (101 ∷ []) text refl (after_value held x) refl
+      by words.E x = then_of_parts (101 ∷ []) text refl (after_value held x) refl
       by words.Alse x = in_front (97 ∷ []) (λ l e. ap (λ m. 97 ∷ m) e) x
       by words.Lse x = in_front (108 ∷ []) (λ l e. ap (λ m. 108 ∷ m) e) x
       by words.Se x = in_front (115 ∷ []) (λ l e. ap (λ m. 115 ∷ m) e) x
@@ -313,9 +328,9 @@ module _ (level b : ℕ) (text : List ℕ) where
   colon_back : (held : List Bracket) → Leads held (next_step modes.Colon (last_open held) b)
       → CompletesColon level held (b ∷ text)
   colon_back held =
-      if_by Case (is_gap b) _ _ (λ e x. in_front (b ∷ []) (gap_front b e) x) (λ gap.
-      if_by Case (b == 58) _ _ (λ e x. joined [] (b ∷ text) no_gap
-      (joined (b ∷ []) text (one (grind (arith, nat_tests, e)) refl) x refl) refl)
+      if_by_cases Case (is_whitespace b) _ _ (λ e x. in_front (b ∷ []) (gap_front b e) x) (λ gap.
+      if_by_cases Case (b == 58) _ _ (λ e x. then_of_parts [] (b ∷ text) no_gap
+      (then_of_parts (b ∷ []) text (one_byte_text (grind (arith, nat_tests, e)) refl) x refl) refl)
       (λ e x. absurd x))
     where
       Case : Step → Type 0

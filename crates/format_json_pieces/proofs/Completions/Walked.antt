@@ -6,8 +6,8 @@ use Rattle.std.proofs.lemmas.Str.{IsUtf8-nil}
 use Rattle.format_json_pieces.proofs.Completions.{Completes, CompletesAfter}
 use Rattle.format_json_pieces.proofs.Completions.Bytes.{IsFine, Utf8Mode, step_fine, step_utf8}
 use Rattle.format_json_pieces.proofs.Completions.Values.{step_back}
-use Rattle.format_json_pieces.specs.Begun.{IsAfterValue, IsNextStep, IsViablePrefix, last_open}
-use Rattle.format_json_pieces.specs.Begun.{next_step, others_open}
+use Rattle.format_json_pieces.specs.Begun.{HoldsAfterStep, HoldsAfterValue, IsViablePrefix}
+use Rattle.format_json_pieces.specs.Begun.{last_open, next_step, others_open}
 use Rattle.format_json_pieces.specs.Extents.{EndsBefore, IsWalkedTo}
 use Rattle.format_json_pieces.specs.declared.begun.Bracket.{Bracket}
 use Rattle.format_json_pieces.specs.declared.begun.Mode.{Mode}
@@ -27,12 +27,12 @@ module _ (level : ℕ) where
 
   module _ {E F : Type 0} {P Q : Mode → List Bracket → Type 0} (ended : E → F)
       (on : (m : Mode) (o : List Bracket) → P m o → Q m o) where
-    after_as : (held : List Bracket) → IsAfterValue E P held → IsAfterValue F Q held
+    after_as : (held : List Bracket) → HoldsAfterValue E P held → HoldsAfterValue F Q held
     after_as [] x = ended x
     after_as (k ∷ held) x = on modes.After (k ∷ held) x
 
-    next_as : (held : List Bracket) (s : Step) → IsNextStep ⊥ E P level held s
-        → IsNextStep ⊥ F Q level held s
+    next_as : (held : List Bracket) (s : Step) → HoldsAfterStep ⊥ E P level held s
+        → HoldsAfterStep ⊥ F Q level held s
     next_as held steps.Invalid x = x
     next_as held steps.Ended x = x
     next_as held (steps.Goes m) x = on m held x
@@ -43,10 +43,10 @@ module _ (level : ℕ) where
   module _ (text : List ℕ) where
     abbrev pub BothStep : List Bracket → Step → Type 0
     BothStep held step =
-        IsNextStep ⊥ (BothAfter [] text) (λ m o. Both m o text) level held step
+        HoldsAfterStep ⊥ (BothAfter [] text) (λ m o. Both m o text) level held step
 
     pub into_after : (held : List Bracket) → BothAfter held text
-        → IsAfterValue (BothAfter [] text) (λ m o. Both m o text) held
+        → HoldsAfterValue (BothAfter [] text) (λ m o. Both m o text) held
     into_after [] x = x
     into_after (k ∷ held) x = x
 
@@ -84,15 +84,16 @@ module _ (level : ℕ) where
     module _ (b : ℕ) (bytes : List ℕ) (on : (mode : Mode) (held : List Bracket)
         → EndsBefore level mode held bytes rest → Found (Both mode held) bytes) where
       after_found : (held : List Bracket)
-          → IsAfterValue (bytes ≡ rest) (λ m o. EndsBefore level m o bytes rest) held
-          → Found (λ text. IsAfterValue (BothAfter [] text) (λ m o. Both m o text) held) bytes
+          → HoldsAfterValue (bytes ≡ rest) (λ m o. EndsBefore level m o bytes rest) held
+          → Found (λ text. HoldsAfterValue (BothAfter [] text) (λ m o. Both m o text) held) bytes
       after_found [] e = ([], e, (refl, IsUtf8-nil))
       after_found (k ∷ held) x = on modes.After (k ∷ held) x
 
       step_found : (mode : Mode) (held : List Bracket) (s : Step)
           → ((text : List ℕ) → BothStep text held s → Both mode held (b ∷ text))
           → IsFine level mode held s
-          → IsNextStep (b ∷ bytes ≡ rest) (bytes ≡ rest) (λ m o. EndsBefore level m o bytes rest)
+          → HoldsAfterStep (b ∷ bytes ≡ rest) (bytes ≡ rest)
+          (λ m o. EndsBefore level m o bytes rest)
           level held s → Found (Both mode held) (b ∷ bytes)
       step_found mode held steps.Invalid back fine x = absurd x
       step_found mode held steps.Ended back fine x = ([], x, (fine.1, fine.2))
@@ -129,22 +130,23 @@ module _ (level : ℕ) where
       → IsViablePrefix level mode held bytes → Outcome mode held bytes) where
     abbrev StepOutcome : List Bracket → Step → Type 0
     StepOutcome held s =
-        ((rest : List ℕ) × IsNextStep (b ∷ bytes ≡ rest) (bytes ≡ rest)
+        ((rest : List ℕ) × HoldsAfterStep (b ∷ bytes ≡ rest) (bytes ≡ rest)
         (λ m o. EndsBefore level m o bytes rest) level held s)
         ⊎ ((last : Mode) × (inner : List Bracket)
-        × IsNextStep ⊥ ⊥ (λ m o. IsWalkedTo level m o bytes last inner) level held s
+        × HoldsAfterStep ⊥ ⊥ (λ m o. IsWalkedTo level m o bytes last inner) level held s
         × (length inner ≤ length held + length (b ∷ bytes)))
 
     abbrev AfterOutcome : List Bracket → Type 0
     AfterOutcome held =
         ((rest : List ℕ)
-        × IsAfterValue (bytes ≡ rest) (λ m o. EndsBefore level m o bytes rest) held)
+        × HoldsAfterValue (bytes ≡ rest) (λ m o. EndsBefore level m o bytes rest) held)
         ⊎ ((last : Mode) × (inner : List Bracket)
-        × IsAfterValue ⊥ (λ m o. IsWalkedTo level m o bytes last inner) held
+        × HoldsAfterValue ⊥ (λ m o. IsWalkedTo level m o bytes last inner) held
         × (length inner ≤ length held + length bytes))
 
     after_outcome : (held : List Bracket)
-        → IsAfterValue (Unit {0}) (λ m o. IsViablePrefix level m o bytes) held → AfterOutcome held
+        → HoldsAfterValue (Unit {0}) (λ m o. IsViablePrefix level m o bytes) held
+        → AfterOutcome held
     after_outcome [] x = inl (bytes, refl)
     after_outcome (k ∷ held) x = on modes.After (k ∷ held) x
 
@@ -153,7 +155,7 @@ module _ (level : ℕ) where
     others_few (k ∷ held) = omega arith
 
     step_outcome : (held : List Bracket) (s : Step)
-        → IsNextStep (Unit {0}) (Unit {0}) (λ m o. IsViablePrefix level m o bytes) level held s
+        → HoldsAfterStep (Unit {0}) (Unit {0}) (λ m o. IsViablePrefix level m o bytes) level held s
         → StepOutcome held s
     step_outcome held steps.Invalid x = absurd x
     step_outcome held steps.Ended x = inl (b ∷ bytes, refl)

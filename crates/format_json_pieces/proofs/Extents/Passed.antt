@@ -4,13 +4,11 @@ use Rattle.std.specs.Prelude.{◌∷◌, length}
 use Rattle.std.proofs.Common.{◌∙◌, ap, append_assoc, arith, length-append, refl, subst, sym}
 use Rattle.std.proofs.lemmas.List.{append-nil}
 use Rattle.std.proofs.lemmas.List.{nil_from_length}
-use Rattle.format_json_pieces.specs.Begun.{IsAfterValue, IsNextStep, IsViablePrefix}
+use Rattle.format_json_pieces.specs.Begun.{HoldsAfterStep, HoldsAfterValue, IsViablePrefix}
 use Rattle.format_json_pieces.specs.Begun.{last_open, next_step, others_open}
-use Rattle.format_json_pieces.specs.Extents.{Begins, EndsAt, EndsBefore, EndsNowhere}
-use Rattle.format_json_pieces.specs.Extents.{IsNew, IsOf, IsReason, IsRejected}
-use Rattle.format_json_pieces.specs.Extents.{IsRejectedStep, IsTurn, IsWalkedTo, SkipsPlain}
-use Rattle.format_json_pieces.specs.Extents.{Walked}
-use Rattle.format_json_pieces.specs.Extents.{brackets_in}
+use Rattle.format_json_pieces.specs.Extents.{Begins, EndsAt, EndsBefore, EndsNowhere, IsExtentOf}
+use Rattle.format_json_pieces.specs.Extents.{IsNew, IsReason, IsRejected, IsRejectedStep, IsTurn}
+use Rattle.format_json_pieces.specs.Extents.{IsWalkedTo, SkipsPlain, Walked, brackets_in}
 use Rattle.format_json_pieces.specs.declared.begun.Bracket.{Bracket}
 use Rattle.format_json_pieces.specs.declared.begun.Mode.TheVariants as modes
 use Rattle.format_json_pieces.specs.declared.begun.Step.{Step}
@@ -24,7 +22,7 @@ use Rattle.format_json_pieces.proofs.Extents.Turns.{brackets_length}
 
 -- ---- the bytes passed
 
-pub of_new : (e : ValueExtent) (opened bytes : List ℕ) → IsNew e → IsOf e opened bytes
+pub of_new : (e : ValueExtent) (opened bytes : List ℕ) → IsNew e → IsExtentOf e opened bytes
 of_new e opened bytes (none, closed, mode) = (
   bytes,
   record {
@@ -39,15 +37,16 @@ of_new e opened bytes (none, closed, mode) = (
 -- a value that ends with a byte ends there before more
 module _ (level b : ℕ) (more : List ℕ) where
   ends_after : (held : List Bracket)
-      → IsAfterValue (◌≡◌ {A = List ℕ} [] []) (λ m o. EndsBefore level m o [] []) held
-      → IsAfterValue (more ≡ more) (λ m o. EndsBefore level m o more more) held
+      → HoldsAfterValue (◌≡◌ {A = List ℕ} [] []) (λ m o. EndsBefore level m o [] []) held
+      → HoldsAfterValue (more ≡ more) (λ m o. EndsBefore level m o more more) held
   ends_after [] x = refl
   ends_after (k ∷ held) x = absurd x
 
   ends_more : (held : List Bracket) (s : Step)
-      → IsNextStep (b ∷ [] ≡ []) (◌≡◌ {A = List ℕ} [] []) (λ m o. EndsBefore level m o [] []) level
+      → HoldsAfterStep (b ∷ [] ≡ []) (◌≡◌ {A = List ℕ} [] [])
+      (λ m o. EndsBefore level m o [] []) level
       held s
-      → IsNextStep (b ∷ more ≡ more) (more ≡ more) (λ m o. EndsBefore level m o more more) level
+      → HoldsAfterStep (b ∷ more ≡ more) (more ≡ more) (λ m o. EndsBefore level m o more more) level
       held s
   ends_more held steps.Invalid x = x
   ends_more held steps.Ended x = absurd (omega (arith, ap (λ l. length l) x))
@@ -96,7 +95,7 @@ module _ {e : ValueExtent} {opened bytes left : List ℕ} (w : Walked e opened b
   all_of none = w.splits ∙ ap (λ l. w.front ++ l) (nil_from_length left none)
 
   pub of_end : length left ≡ 0 → (n : ℕ) → n ≡ length bytes → (more : List ℕ)
-      → IsOf (record { passed = n; depth = e.depth; mode = e.mode }) opened (bytes ++ more)
+      → IsExtentOf (record { passed = n; depth = e.depth; mode = e.mode }) opened (bytes ++ more)
   of_end none n size more = (
     more,
     record {
@@ -144,7 +143,7 @@ module _ {e : ValueExtent} {opened bytes left : List ℕ} (w : Walked e opened b
     pub at_ended : (new : ValueExtent) (others : List ℕ) → IsTurn e opened b new others turns.Ended
         → (n : ℕ) → n ≡ length bytes - length left → EndsAt levels bytes n
     at_ended new others is n size =
-        let P : Step → Type 0 = λ s. IsNextStep (b ∷ more ≡ b ∷ more) (more ≡ b ∷ more)
+        let P : Step → Type 0 = λ s. HoldsAfterStep (b ∷ more ≡ b ∷ more) (more ≡ b ∷ more)
         (λ m o. EndsBefore levels m o more (b ∷ more)) levels inner s in (
           w.front,
           b ∷ more,
@@ -173,11 +172,11 @@ module _ {e : ValueExtent} {opened bytes left : List ℕ} (w : Walked e opened b
         → IsReason levels (w.front ++ b ∷ []) reason
     why reasons.Malformed is = λ deep x.
         let big = levels + deep in
-        let P : Step → Type 0 = λ s. IsNextStep ⊤ ⊤ (λ m o. ⊤) big inner s in
+        let P : Step → Type 0 = λ s. HoldsAfterStep ⊤ ⊤ (λ m o. ⊤) big inner s in
         subst P is ((begins_to big (omega arith) (b ∷ [])).1
         (walked_deeper deep big (omega arith) (λ rest. ⊤) (w.front ++ b ∷ []) modes.Value [] x))
     why reasons.TooDeep (k, is, full) =
-        let P : ℕ → Step → Type 0 = λ n s. IsNextStep ⊤ ⊤ (λ m o. ⊤) n inner s in (
+        let P : ℕ → Step → Type 0 = λ n s. HoldsAfterStep ⊤ ⊤ (λ m o. ⊤) n inner s in (
           λ x. absurd (omega (
             arith,
             full,

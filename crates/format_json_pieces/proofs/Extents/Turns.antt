@@ -6,10 +6,10 @@ use Rattle.std.proofs.Common.{◌∙◌, ap, append_assoc, arith, inl, inr, refl
 use Rattle.std.proofs.lemmas.Bool.Decides.{nat_tests}
 use Rattle.std.proofs.lemmas.List.{get_or-set_other, get_or-set_same, length-set}
 use Rattle.std.proofs.lemmas.List.Elements.{All-head, All-push, All-tail}
-use Rattle.format_json_pieces.specs.Begun.{IsAfterValue, IsNextStep}
-use Rattle.format_json_pieces.specs.Begun.{last_open, next_step, others_open}
+use Rattle.format_json_pieces.specs.Begun.{HoldsAfterStep, HoldsAfterValue, last_open, next_step}
+use Rattle.format_json_pieces.specs.Begun.{others_open}
 use Rattle.format_json_extents.specs.Texts.{MatchesAtStart}
-use Rattle.format_json_pieces.specs.Begun.{within_name, within_text}
+use Rattle.format_json_pieces.specs.Begun.{step_in_name, step_in_text}
 use Rattle.format_json_pieces.specs.Extents.{EndsBefore}
 use Rattle.format_json_pieces.specs.Extents.{IsClosed}
 use Rattle.format_json_pieces.specs.Extents.{IsOpened, IsPlain}
@@ -82,7 +82,7 @@ module _ (old : ValueExtent) (opened : List ℕ) (b : ℕ) where
   turn_opens few k e new others turns.Goes (less, same, deeper, mode) =
       let long : length others ≡ length opened =
       ap (λ l. length l) same ∙ length-set opened old.depth (byte_of k) in
-      let P : Step → Type 0 = λ s. IsNextStep ⊥ ⊥
+      let P : Step → Type 0 = λ s. HoldsAfterStep ⊥ ⊥
       (λ m o. (m ≡ new.mode) × (o ≡ brackets_in others new.depth)) (length opened)
       (brackets_in opened old.depth) s in (
         long,
@@ -106,14 +106,14 @@ module _ (old : ValueExtent) (opened : List ℕ) (b : ℕ) where
   -- after a value, with the brackets that remain
   after_to : (n : ℕ) (new : ValueExtent) (was : ℕ) (before : Type 0) → was ≡ n
       → IsClosed was new turns.Goes
-      → IsAfterValue before (IsNew new) (brackets_in opened n)
+      → HoldsAfterValue before (IsNew new) (brackets_in opened n)
   after_to zero new was before e (some, deep, mode) = absurd (omega (arith, e, some))
   after_to (suc n) new was before e (some, deep, mode) =
       (sym mode, ap (λ m. brackets_in opened m) (sym e ∙ sym deep))
 
   after_ends : (n : ℕ) (was : ℕ) (new : ValueExtent) (on : Mode → List Bracket → Type 0)
       (ended : Type 0) → was ≡ n → IsClosed was new turns.Ends → ended
-      → IsAfterValue ended on (brackets_in opened n)
+      → HoldsAfterValue ended on (brackets_in opened n)
   after_ends zero was new on ended e none x = x
   after_ends (suc n) was new on ended e none x = absurd (omega (arith, e, none))
 
@@ -121,11 +121,11 @@ module _ (old : ValueExtent) (opened : List ℕ) (b : ℕ) where
     pub turn_ends : steps.Ends ≡ step → was ≡ old.depth → (turn : Turn)
         → IsClosed was new turn → IsTurn old opened b new opened turn
     turn_ends e same turns.Goes x =
-        let P : Step → Type 0 = λ s. IsNextStep ⊥ ⊥ (IsNew new) (length opened)
+        let P : Step → Type 0 = λ s. HoldsAfterStep ⊥ ⊥ (IsNew new) (length opened)
         (brackets_in opened old.depth) s in
         (refl, omega (arith, few, same, x.1), subst P e (after_to old.depth new was ⊥ same x))
     turn_ends e same turns.Ends x =
-        let P : Step → Type 0 = λ s. IsNextStep (b ∷ [] ≡ []) Done On (length opened)
+        let P : Step → Type 0 = λ s. HoldsAfterStep (b ∷ [] ≡ []) Done On (length opened)
         (brackets_in opened old.depth) s in
         subst P e (after_ends old.depth was new On Done same x refl)
     turn_ends e same turns.Ended x = absurd x
@@ -138,18 +138,18 @@ module _ (old : ValueExtent) (opened : List ℕ) (b : ℕ) where
     pub turn_closes : steps.Closes ≡ step → was ≡ old.depth - 1 → (turn : Turn)
         → IsClosed was new turn → IsTurn old opened b new opened turn
     turn_closes e same turns.Goes x =
-        let P : Step → Type 0 = λ s. IsNextStep ⊥ ⊥ (IsNew new) (length opened)
+        let P : Step → Type 0 = λ s. HoldsAfterStep ⊥ ⊥ (IsNew new) (length opened)
         (brackets_in opened old.depth) s in
-        let Q : List Bracket → Type 0 = λ l. IsAfterValue ⊥ (IsNew new) l in (
+        let Q : List Bracket → Type 0 = λ l. HoldsAfterValue ⊥ (IsNew new) l in (
           refl,
           omega (arith, few, same, x.1),
           subst P e
               (subst Q (sym (others_are old.depth)) (after_to (old.depth - 1) new was ⊥ same x)),
         )
     turn_closes e same turns.Ends x =
-        let P : Step → Type 0 = λ s. IsNextStep (b ∷ [] ≡ []) Done On (length opened)
+        let P : Step → Type 0 = λ s. HoldsAfterStep (b ∷ [] ≡ []) Done On (length opened)
         (brackets_in opened old.depth) s in
-        let Q : List Bracket → Type 0 = λ l. IsAfterValue Done On l in
+        let Q : List Bracket → Type 0 = λ l. HoldsAfterValue Done On l in
         subst P e (subst Q (sym (others_are old.depth))
         (after_ends (old.depth - 1) was new On Done same x refl))
     turn_closes e same turns.Ended x = absurd x
@@ -163,7 +163,7 @@ module _ (mode : Mode)
       → IsWalkedTo level mode held front mode held
   plain_on [] all level held = (refl, refl)
   plain_on (b ∷ front) all level held =
-      let P : Step → Type 0 = λ s. IsNextStep ⊥ ⊥
+      let P : Step → Type 0 = λ s. HoldsAfterStep ⊥ ⊥
       (λ m o. IsWalkedTo level m o front mode held) level held s in
       subst P (sym (same (last_open held) b (All-head IsPlain b front all)))
       (plain_on front (All-tail IsPlain b front all) level held)
@@ -195,11 +195,11 @@ skips make stays mode part e bytes rest it =
 
 pub in_text : (part : Part) (o : Option Bracket) (b : ℕ) → part_behind part b ≡ inners.Part part
     → next_step (modes.Text part) o b ≡ steps.Goes (modes.Text part)
-in_text part o b is = ap (λ (i : Inner). within_text i) is
+in_text part o b is = ap (λ (i : Inner). step_in_text i) is
 
 pub in_name : (part : Part) (o : Option Bracket) (b : ℕ) → part_behind part b ≡ inners.Part part
     → next_step (modes.Name part) o b ≡ steps.Goes (modes.Name part)
-in_name part o b is = ap (λ (i : Inner). within_name i) is
+in_name part o b is = ap (λ (i : Inner). step_in_name i) is
 
 pub plain_more : (bytes rest more : List ℕ) (b : ℕ) → MatchesAtStart (All IsPlain) bytes rest
     → rest ≡ b ∷ more → IsPlain b → MatchesAtStart (All IsPlain) bytes more

@@ -7,10 +7,10 @@ use Rattle.format_json_texts.specs.Number.{ContinuesNumber}
 use Rattle.format_json_texts.specs.declared.value.Value.{Value}
 use Rattle.format_json_pieces.proofs.Extents.{deeper_step, ends_longer}
 use Rattle.format_json_pieces.proofs.Passing.{next_walked}
-use Rattle.format_json_pieces.proofs.Walks.{walked_one}
+use Rattle.format_json_pieces.proofs.Walks.{walk_end_unique}
 use Rattle.format_json_pieces.specs.Begun.{IsWalked, last_open, next_step}
 use Rattle.format_json_pieces.specs.Extents.{EndsBefore}
-use Rattle.format_json_pieces.specs.Value.{IsNext, IsValueIn}
+use Rattle.format_json_pieces.specs.Value.{IsNextOrNone, IsValueIn}
 use Rattle.format_json_pieces.specs.declared.begun.Bracket.{Bracket}
 use Rattle.format_json_pieces.specs.declared.begun.Mode.{Mode}
 use Rattle.format_json_pieces.specs.declared.begun.Mode.TheVariants as modes
@@ -45,9 +45,10 @@ spaced [] not = λ is. grind (arith, is)
 spaced (b ∷ rest) not = not
 
 module _ {A : Type 0} (level : ℕ) where
-  next_spaced : (bytes : List ℕ) (v : Value A) (rest : List ℕ) → IsNext level bytes (Some v) rest
-      → IsNext level (bytes ++ 32 ∷ []) (Some v) (rest ++ 32 ∷ [])
-  unfolding IsNext IsValueIn
+  next_spaced : (bytes : List ℕ) (v : Value A) (rest : List ℕ)
+      → IsNextOrNone level bytes (Some v) rest
+      → IsNextOrNone level (bytes ++ 32 ∷ []) (Some v) (rest ++ 32 ∷ [])
+  unfolding IsNextOrNone IsValueIn
   next_spaced bytes v rest (gap, start, all, e, (text, written, f, ended)) = (
     gap,
     start ++ 32 ∷ [],
@@ -62,7 +63,7 @@ module _ {A : Type 0} (level : ℕ) where
   )
 
   pub value_found : (bytes : List ℕ) (v : Value A) (rest : List ℕ)
-      → IsNext level bytes (Some v) rest
+      → IsNextOrNone level bytes (Some v) rest
       → EndsBefore level modes.Value [] (bytes ++ 32 ∷ []) (rest ++ 32 ∷ [])
   value_found bytes v rest x =
       walked_ends level (rest ++ 32 ∷ [])
@@ -72,10 +73,10 @@ module _ {A : Type 0} (level : ℕ) where
       (next_spaced bytes v rest x) refl)
 
   pub ends_there : (bytes rest more : List ℕ) → EndsBefore level modes.Value [] bytes rest
-      → (v : Value A) (other : List ℕ) → IsNext level (bytes ++ more) (Some v) other
+      → (v : Value A) (other : List ℕ) → IsNextOrNone level (bytes ++ more) (Some v) other
       → other ≡ rest ++ more
   ends_there bytes rest more ended v other x =
-      walked_one level other (rest ++ more) (bytes ++ more) modes.Value []
+      walk_end_unique level other (rest ++ more) (bytes ++ more) modes.Value []
       (next_walked level (λ l. l ≡ other) (bytes ++ more) v other x refl)
       (ends_walked level (rest ++ more) (bytes ++ more) modes.Value []
       (ends_longer level rest bytes more modes.Value [] ended))

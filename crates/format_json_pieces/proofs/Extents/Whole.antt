@@ -6,14 +6,11 @@ use Rattle.std.proofs.Common.{◌∙◌, ap, append_assoc, arith, inl, inr, leng
 use Rattle.std.proofs.Common.{sym}
 use Rattle.std.proofs.lemmas.List.{append-nil}
 use Rattle.std.proofs.lemmas.List.{nil_from_length}
-use Rattle.format_json_pieces.specs.Begun.{IsAfterValue, IsNextStep}
-use Rattle.format_json_pieces.specs.Begun.{last_open, next_step, others_open}
+use Rattle.format_json_pieces.specs.Begun.{HoldsAfterStep, HoldsAfterValue, last_open, next_step}
+use Rattle.format_json_pieces.specs.Begun.{others_open}
 use Rattle.format_json_extents.specs.Texts.{RestAfter}
-use Rattle.format_json_extents.specs.Value.{IsGap, IsSpace}
-use Rattle.format_json_pieces.specs.Extents.{EndsAt, EndsBefore}
-use Rattle.format_json_pieces.specs.Extents.{EndsWhole}
-use Rattle.format_json_pieces.specs.Extents.{IsOf}
-use Rattle.format_json_pieces.specs.Extents.{Walked}
+use Rattle.format_json_extents.specs.Value.{IsWhitespace, IsWhitespaceByte}
+use Rattle.format_json_pieces.specs.Extents.{EndsAt, EndsBefore, EndsWhole, IsExtentOf, Walked}
 use Rattle.format_json_pieces.specs.Extents.{brackets_in}
 use Rattle.format_json_pieces.specs.declared.begun.Bracket.{Bracket}
 use Rattle.format_json_pieces.specs.declared.begun.Mode.TheVariants as modes
@@ -42,7 +39,7 @@ module _ {e : ValueExtent} {opened bytes : List ℕ} (w : Walked e opened bytes 
       → EndsWhole (length opened) bytes (length bytes)
   ends_whole s ended is =
       let none : List ℕ = [] in
-      let P : Step → Type 0 = λ t. IsNextStep (32 ∷ none ≡ 32 ∷ none) (none ≡ 32 ∷ none)
+      let P : Step → Type 0 = λ t. HoldsAfterStep (32 ∷ none ≡ 32 ∷ none) (none ≡ 32 ∷ none)
       (λ m o. EndsBefore (length opened) m o [] (32 ∷ [])) (length opened)
       (brackets_in opened e.depth) t in (
         omega arith,
@@ -63,12 +60,13 @@ module _ {e : ValueExtent} {opened bytes : List ℕ} (w : Walked e opened bytes 
     )
 
     not_after : (held : List Bracket)
-        → IsAfterValue ([] ≡ rest) (λ m o. EndsBefore (length opened) m o [] rest) held → ⊥
+        → HoldsAfterValue ([] ≡ rest) (λ m o. EndsBefore (length opened) m o [] rest) held → ⊥
     not_after [] x = some x
     not_after (k ∷ held) x = x
 
     not_so : (held : List Bracket) (s : Step) → (s ≡ steps.Ended → ⊥)
-        → IsNextStep (32 ∷ [] ≡ rest) ([] ≡ rest) (λ m o. EndsBefore (length opened) m o [] rest)
+        → HoldsAfterStep (32 ∷ [] ≡ rest) ([] ≡ rest)
+        (λ m o. EndsBefore (length opened) m o [] rest)
         (length opened) held s → ⊥
     not_so held steps.Invalid not x = x
     not_so held steps.Ended not x = not refl
@@ -81,27 +79,29 @@ module _ {e : ValueExtent} {opened bytes : List ℕ} (w : Walked e opened bytes 
       → s ≡ next_step e.mode (last_open (brackets_in opened e.depth)) 32 → (n : ℕ)
       → EndsWhole (length opened) bytes n → ⊥
   unfinished s not is n (less, (front, rest, splits, size, x)) =
-      let P : Step → Type 0 = λ t. IsNextStep (32 ∷ [] ≡ rest) ([] ≡ rest)
+      let P : Step → Type 0 = λ t. HoldsAfterStep (32 ∷ [] ≡ rest) ([] ≡ rest)
       (λ m o. EndsBefore (length opened) m o [] rest) (length opened)
       (brackets_in opened e.depth) t in
       not_so n less front rest splits size (brackets_in opened e.depth) s not
       (subst P (sym is) ((spaced rest).1 x))
 
 -- bytes are whitespace if and only if none remain after it
-module _ {bytes rest : List ℕ} (it : RestAfter (All IsSpace) IsSpace bytes rest) where
-  pub all_space : length rest ≡ 0 → IsGap bytes
+module _ {bytes rest : List ℕ}
+    (it : RestAfter (All IsWhitespaceByte) IsWhitespaceByte bytes rest) where
+  pub all_space : length rest ≡ 0 → IsWhitespace bytes
   all_space none =
-      subst IsGap (sym (it.stands.splits ∙ ap (λ l. it.stands.text ++ l) (nil_from_length rest none)
+      subst IsWhitespace
+      (sym (it.stands.splits ∙ ap (λ l. it.stands.text ++ l) (nil_from_length rest none)
       ∙ append-nil it.stands.text)) it.stands.is
 
-  pub some_not : (length rest ≡ 0 → ⊥) → IsGap bytes → ⊥
+  pub some_not : (length rest ≡ 0 → ⊥) → IsWhitespace bytes → ⊥
   some_not some all =
       elim (it.only [] (record { text = bytes; is = all; splits = sym (append-nil bytes) })) [
         | inl same ↦ some (ap (λ l. length l) (sym same))
         | inr longer ↦ omega (arith, longer.is_more)
       ]
 
-pub all_passed : (e : ValueExtent) (opened bytes : List ℕ) → IsOf e opened (bytes ++ [])
+pub all_passed : (e : ValueExtent) (opened bytes : List ℕ) → IsExtentOf e opened (bytes ++ [])
     → e.passed ≡ length bytes → Walked e opened bytes []
 all_passed e opened bytes (left, w, sum) all =
     let none : left ≡ [] =

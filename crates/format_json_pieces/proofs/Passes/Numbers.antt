@@ -5,14 +5,14 @@ use Rattle.std.proofs.lemmas.Bool.Decides.{nat_tests}
 use Rattle.std.specs.List.{All}
 use Rattle.grammars.specs.Texts.{NotFirst}
 use Rattle.format_json_extents.specs.Number.{IsDigit, IsExponent, IsFraction, IsNumber}
-use Rattle.format_json_extents.specs.Number.{IsLeading, IsWhole}
+use Rattle.format_json_extents.specs.Number.{IsNonzeroDigit, IsIntegerPart}
 use Rattle.format_json_texts.specs.Number.{ContinuesNumber}
 use Rattle.format_json_pieces.proofs.Passes.{Passes, all_pass, byte_pass, either_pass}
-use Rattle.format_json_pieces.proofs.Passes.{maybe_pass, then_pass, this_pass, wider}
+use Rattle.format_json_pieces.proofs.Passes.{given_byte_passes, maybe_pass, passes_wider, then_pass}
 use Rattle.format_json_pieces.proofs.Passes.Strings.{both_ways}
 use Rattle.format_json_pieces.proofs.Walks as walks
-use Rattle.format_json_pieces.specs.Begun.{behind_number, last_open, number_step, value_step}
-use Rattle.format_json_pieces.specs.Inside.{figure_behind, goes_on, is_final}
+use Rattle.format_json_pieces.specs.Begun.{last_open, number_step, step_after_number, value_step}
+use Rattle.format_json_pieces.specs.Inside.{continues_number, figure_behind, may_be_last}
 use Rattle.format_json_pieces.specs.declared.begun.Bracket.{Bracket}
 use Rattle.format_json_pieces.specs.declared.begun.Mode.{Mode}
 use Rattle.format_json_pieces.specs.declared.begun.Mode.TheVariants as modes
@@ -20,7 +20,7 @@ use Rattle.format_json_pieces.specs.declared.begun.Step.TheVariants as steps
 use Rattle.format_json_pieces.specs.declared.inside.Figure.{Figure}
 use Rattle.format_json_pieces.specs.declared.inside.Figure.TheVariants as figures
 
-final_stops : (f : Figure) (b : ℕ) → is_final f ≡ true → goes_on b ≡ false
+final_stops : (f : Figure) (b : ℕ) → may_be_last f ≡ true → continues_number b ≡ false
     → figure_behind f b ≡ None
 final_stops figures.Minus b e not = cc
 final_stops figures.Zero b e not = grind (arith, nat_tests, not)
@@ -31,8 +31,8 @@ final_stops figures.Exponent b e not = cc
 final_stops figures.Sign b e not = cc
 final_stops figures.Power b e not = grind (arith, nat_tests, not)
 
-stops : (b : ℕ) → (ContinuesNumber b → ⊥) → goes_on b ≡ false
-stops b not = elim (both_ways (goes_on b)) [
+stops : (b : ℕ) → (ContinuesNumber b → ⊥) → continues_number b ≡ false
+stops b not = elim (both_ways (continues_number b)) [
   | inl goes ↦ absurd (not (grind (arith, nat_tests, goes)))
   | inr e ↦ e
 ]
@@ -57,10 +57,10 @@ module _ (ends : List ℕ → Type 0) (level : ℕ) (rest : List ℕ) (held : Li
   goes : (f g : Figure) (b : ℕ) → figure_behind f b ≡ Some g → (l : List ℕ) → At g l
       → At f (b ∷ l)
   goes f g b e l x =
-      subst (λ (o : Option Figure). walks.Next ends level held b l (number_step o (is_final f)
+      subst (λ (o : Option Figure). walks.Next ends level held b l (number_step o (may_be_last f)
       (last_open held) b)) (sym e) x
 
-  ended : (f : Figure) (l : List ℕ) → is_final f ≡ true → Ended l → At f l
+  ended : (f : Figure) (l : List ℕ) → may_be_last f ≡ true → Ended l → At f l
   ended f [] final (x, not) = here held x
     where
       here : (k : List Bracket) → walks.AfterValue ends level k [] → ends []
@@ -68,13 +68,13 @@ module _ (ends : List ℕ → Type 0) (level : ℕ) (rest : List ℕ) (held : Li
       here (k ∷ held) x = x
   ended f (b ∷ l) final (x, not) =
       let stop = stops b not in
-      let e : number_step (figure_behind f b) (is_final f) (last_open held) b
-      ≡ behind_number (last_open held) b =
+      let e : number_step (figure_behind f b) (may_be_last f) (last_open held) b
+      ≡ step_after_number (last_open held) b =
       rw (final_stops f b final stop, final, stop) in
       subst (λ s. walks.Next ends level held b l s) (sym e) (here held x)
     where
       here : (k : List Bracket) → walks.AfterValue ends level k (b ∷ l)
-          → walks.Next ends level k b l (behind_number (last_open k) b)
+          → walks.Next ends level k b l (step_after_number (last_open k) b)
       here [] x = x
       here (k ∷ held) x = x
 
@@ -112,37 +112,37 @@ module _ (ends : List ℕ → Type 0) (level : ℕ) (rest : List ℕ) (held : Li
         goes figures.Exponent figures.Power c (grind (arith, nat_tests, is)) l x,
         goes figures.Sign figures.Power c (grind (arith, nat_tests, is)) l x,
       )))
-      (wider (λ l x. ended figures.Power l refl x) (λ l x. x)
+      (passes_wider (λ l x. ended figures.Power l refl x) (λ l x. x)
       (more_on figures.Power (λ c is. grind (arith, nat_tests, is))))))
 
   fraction_on : Passes rest IsFraction Counted Parted
   fraction_on =
-      then_pass (this_pass rest {B = At figures.Point} 46 (omega arith) (λ l x.
+      then_pass (given_byte_passes rest {B = At figures.Point} 46 (omega arith) (λ l x.
       (goes figures.Zero figures.Point 46 refl l x, goes figures.Whole figures.Point 46 refl l x)))
       (then_pass (byte_pass rest {B = At figures.Fraction} digit_low (λ c is.
       goes figures.Point figures.Fraction c (grind (arith, nat_tests, is))))
-      (wider (λ l x. x.1) (λ l x. x)
+      (passes_wider (λ l x. x.1) (λ l x. x)
       (more_on figures.Fraction (λ c is. grind (arith, nat_tests, is)))))
 
-  whole_on : Passes rest IsWhole Positive Counted
+  whole_on : Passes rest IsIntegerPart Positive Counted
   whole_on =
-      either_pass (this_pass rest 48 (omega arith) (λ l x.
+      either_pass (given_byte_passes rest 48 (omega arith) (λ l x.
       (goes figures.Minus figures.Zero 48 refl l x.0, λ mode. x.0)))
       (then_pass (byte_pass rest {B = At figures.Whole} (λ c is. omega (arith, is)) (λ c is l x. (
         goes figures.Minus figures.Whole c (grind (arith, nat_tests, is)) l x,
         λ mode. subst (λ s. walks.Next ends level held c l s) (sym (leads mode c is)) x,
       )))
-      (wider (λ l x. x.1) (λ l x. x)
+      (passes_wider (λ l x. x.1) (λ l x. x)
       (more_on figures.Whole (λ c is. grind (arith, nat_tests, is)))))
     where
-      leads : (mode : Mode) (c : ℕ) → IsLeading c
+      leads : (mode : Mode) (c : ℕ) → IsNonzeroDigit c
           → value_step mode c ≡ steps.Goes (modes.Number figures.Whole)
       leads mode c is = grind (arith, nat_tests, is)
 
   pub number_on : Passes rest IsNumber Started Ended
   number_on =
       then_pass (maybe_pass (λ l x. x.1)
-      (this_pass rest {B = Positive} 45 (omega arith) (λ l x mode. x.0)))
+      (given_byte_passes rest {B = Positive} 45 (omega arith) (λ l x mode. x.0)))
       (then_pass whole_on
       (then_pass (maybe_pass (λ l x. x.0) fraction_on)
       (maybe_pass (λ l x. (

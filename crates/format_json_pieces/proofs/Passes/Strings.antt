@@ -7,12 +7,13 @@ use Rattle.std.proofs.lemmas.Bool.{cases_lt}
 use Rattle.std.proofs.lemmas.Bool.Decides.{nat_tests}
 use Rattle.streams.specs.Utf8.{four_bytes, three_bytes, two_bytes}
 use Rattle.format_json_extents.proofs.Characters.{both_true}
-use Rattle.format_json_extents.specs.Strings.{BeginHigh, BeginLow, BeginOnly, IsBackslash, IsEscape}
-use Rattle.format_json_extents.specs.Strings.{IsEscaped, IsHexDigit, IsPiece, IsString, IsTwoDigits}
-use Rattle.format_json_extents.specs.Strings.{IsU, IsUnescaped, IsUnit}
-use Rattle.format_json_extents.specs.Texts.{AreTwo, IsByte}
+use Rattle.format_json_extents.specs.Strings.{BeginHighSurrogate, BeginLowSurrogate}
+use Rattle.format_json_extents.specs.Strings.{BeginNonSurrogate, IsBackslash, IsCodeUnit, IsEscape}
+use Rattle.format_json_extents.specs.Strings.{IsEscaped, IsHexDigit, IsLetterU, IsPiece, IsString}
+use Rattle.format_json_extents.specs.Strings.{IsTwoHexDigits, IsUnescaped}
+use Rattle.format_json_extents.specs.Texts.{AreTwoBytes, IsByte}
 use Rattle.format_json_pieces.proofs.Passes.{Passes, Spells, ascii_spells, byte_pass, either_pass}
-use Rattle.format_json_pieces.proofs.Passes.{many_pass, then_pass, this_pass}
+use Rattle.format_json_pieces.proofs.Passes.{given_byte_passes, many_pass, then_pass}
 use Rattle.format_json_pieces.specs.Inside.{part_behind}
 use Rattle.format_json_pieces.specs.declared.inside.Inner.TheVariants as inners
 use Rattle.format_json_pieces.specs.declared.inside.Part.{Part}
@@ -48,65 +49,66 @@ module _ (rest : List ℕ) {inside : Part → List ℕ → Type 0} {behind : Lis
   on p q c cs (low, e) =
       ascii_spells rest (inside p) (inside q) c cs low (λ l. g.goes p q c l e)
 
-  two_on : (P : ℕ → ℕ → Type 0) (p q r : Part) (xs cs : List ℕ) → (is : AreTwo P xs)
+  two_on : (P : ℕ → ℕ → Type 0) (p q r : Part) (xs cs : List ℕ) → (is : AreTwoBytes P xs)
       → Leads p q is.one → Leads q r is.two → At r cs → At p (xs ++ cs)
   two_on P p q r xs cs is first second x =
       subst (λ l. At p (l ++ cs)) (sym is.alone)
       (on p q is.one (is.two ∷ cs) first (on q r is.two cs second x))
 
   digits_on : (p q r : Part) → ((c : ℕ) → IsHexDigit c → Leads p q c)
-      → ((c : ℕ) → IsHexDigit c → Leads q r c) → Passes rest IsTwoDigits (inside p) (inside r)
+      → ((c : ℕ) → IsHexDigit c → Leads q r c) → Passes rest IsTwoHexDigits (inside p) (inside r)
   digits_on p q r first second =
       then_pass (byte_on IsHexDigit p q first) (byte_on IsHexDigit q r second)
 
-  last_on : Passes rest IsTwoDigits (inside parts.Two) (inside parts.Plain)
+  last_on : Passes rest IsTwoHexDigits (inside parts.Two) (inside parts.Plain)
   last_on =
       digits_on parts.Two parts.One parts.Plain
       (λ c is. (grind (arith, is), grind (arith, nat_tests, is)))
       (λ c is. (grind (arith, is), grind (arith, nat_tests, is)))
 
-  only_on : Passes rest (AreTwo BeginOnly) (inside parts.Unit) (inside parts.Two)
+  only_on : Passes rest (AreTwoBytes BeginNonSurrogate) (inside parts.Unit) (inside parts.Two)
   only_on = record {
     on = λ xs cs is x.
         let (hex, also, below) = is.are_bytes in
         elim (both_ways (is.one == 68 || is.one == 100)) [
           | inl d ↦
               let few : is.two ≤ 55 = below (grind (arith, nat_tests, d)) in
-              two_on BeginOnly parts.Unit parts.BehindD parts.Two xs cs is
+              two_on BeginNonSurrogate parts.Unit parts.AfterSurrogateD parts.Two xs cs is
               (grind (arith, hex), grind (arith, nat_tests, d))
               (grind (arith, also), grind (arith, nat_tests, also, few)) x
           | inr not ↦
-              two_on BeginOnly parts.Unit parts.Three parts.Two xs cs is
+              two_on BeginNonSurrogate parts.Unit parts.Three parts.Two xs cs is
               (grind (arith, hex), grind (arith, nat_tests, hex, not))
               (grind (arith, also), grind (arith, nat_tests, also)) x
         ];
   }
 
-  high_on : Passes rest (IsUnit BeginHigh) (inside parts.Unit) (inside parts.Backslash)
+  high_on : Passes rest (IsCodeUnit BeginHighSurrogate) (inside parts.Unit) (inside parts.Backslash)
   high_on =
       then_pass (record {
-        on = λ xs cs is x. two_on BeginHigh parts.Unit parts.BehindD parts.HighTwo xs cs is
+        on = λ xs cs is x. two_on BeginHighSurrogate parts.Unit parts.AfterSurrogateD
+            parts.HighTwo xs cs is
             (grind (arith, is.are_bytes), grind (arith, nat_tests, is.are_bytes))
             (grind (arith, is.are_bytes), grind (arith, nat_tests, is.are_bytes)) x;
       }) (digits_on parts.HighTwo parts.HighOne parts.Backslash
       (λ c is. (grind (arith, is), grind (arith, nat_tests, is)))
       (λ c is. (grind (arith, is), grind (arith, nat_tests, is))))
 
-  low_on : Passes rest (IsUnit BeginLow) (inside parts.LowD) (inside parts.Plain)
+  low_on : Passes rest (IsCodeUnit BeginLowSurrogate) (inside parts.LowD) (inside parts.Plain)
   low_on =
       then_pass (record {
-        on = λ xs cs is x. two_on BeginLow parts.LowD parts.LowSecond parts.Two xs cs is
+        on = λ xs cs is x. two_on BeginLowSurrogate parts.LowD parts.LowSecond parts.Two xs cs is
             (grind (arith, is.are_bytes), grind (arith, nat_tests, is.are_bytes))
             (grind (arith, is.are_bytes), grind (arith, nat_tests, is.are_bytes)) x;
       }) last_on
 
   letter_on : (p q : Part) → part_behind p 117 ≡ inners.Part q
-      → Passes rest (IsByte IsU) (inside p) (inside q)
-  letter_on p q e = this_pass rest 117 (omega arith) (λ l. g.goes p q 117 l e)
+      → Passes rest (IsByte IsLetterU) (inside p) (inside q)
+  letter_on p q e = given_byte_passes rest 117 (omega arith) (λ l. g.goes p q 117 l e)
 
   slash_on : (p q : Part) → part_behind p 92 ≡ inners.Part q
       → Passes rest (IsByte IsBackslash) (inside p) (inside q)
-  slash_on p q e = this_pass rest 92 (omega arith) (λ l. g.goes p q 92 l e)
+  slash_on p q e = given_byte_passes rest 92 (omega arith) (λ l. g.goes p q 92 l e)
 
   escape_on : Passes rest IsEscape (inside parts.Escape) (inside parts.Plain)
   escape_on =
@@ -211,5 +213,5 @@ module _ (rest : List ℕ) {inside : Part → List ℕ → Type 0} {behind : Lis
   pub string_on : {whole : List ℕ → Type 0} → ((l : List ℕ) → inside parts.Plain l → whole (34 ∷ l))
       → Passes rest IsString whole behind
   string_on opens =
-      then_pass (this_pass rest 34 (omega arith) opens)
-      (then_pass (many_pass piece_on) (this_pass rest 34 (omega arith) g.ends))
+      then_pass (given_byte_passes rest 34 (omega arith) opens)
+      (then_pass (many_pass piece_on) (given_byte_passes rest 34 (omega arith) g.ends))

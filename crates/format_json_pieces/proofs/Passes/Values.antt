@@ -7,29 +7,31 @@ use Rattle.grammars.specs.Texts.{NotFirst, StartsWith}
 use Rattle.format_json_extents.proofs.Scalars.{number_starts}
 use Rattle.format_json_extents.specs.Number.{IsNumber}
 use Rattle.format_json_extents.specs.Texts.{IsByte, Then}
-use Rattle.format_json_extents.specs.Value.{IsClosing, IsGap, IsItem, IsKey, IsNestedTail, IsScalar}
-use Rattle.format_json_extents.specs.Value.{IsSpace, IsValue, IsWord, opening}
+use Rattle.format_json_extents.specs.Value.{IsClosing, IsItem, IsKey, IsNestedTail, IsScalar}
+use Rattle.format_json_extents.specs.Value.{IsValue, IsWhitespace, IsWhitespaceByte, IsWord}
+use Rattle.format_json_extents.specs.Value.{opening_bracket}
 use Rattle.format_json_texts.specs.Number.{ContinuesNumber}
-use Rattle.format_json_texts.specs.Values.Texts.{IsNumeric}
+use Rattle.format_json_texts.specs.Values.Texts.{BeginsNumber}
 use Rattle.format_json_pieces.proofs.Passes.{Passes, Spells, all_pass, either_pass}
-use Rattle.format_json_pieces.proofs.Passes.{list_pass, then_pass, this_pass, wider, word_pass}
+use Rattle.format_json_pieces.proofs.Passes.{given_byte_passes, list_pass, passes_wider, then_pass}
+use Rattle.format_json_pieces.proofs.Passes.{word_pass}
 use Rattle.format_json_pieces.proofs.Passes.Numbers.{number_on}
 use Rattle.format_json_pieces.proofs.Passes.Strings.{Goes, both_ways, string_on}
 use Rattle.format_json_pieces.proofs.Walks.{AfterValue, At, Next, Started}
-use Rattle.format_json_pieces.specs.Begun.{after_step, value_step, within_name, within_text}
+use Rattle.format_json_pieces.specs.Begun.{after_step, step_in_name, step_in_text, value_step}
 use Rattle.format_json_pieces.specs.declared.begun.Bracket.{Bracket}
 use Rattle.format_json_pieces.specs.declared.begun.Bracket.TheVariants.{Array, Object, Whole}
 use Rattle.format_json_pieces.specs.declared.begun.Mode.TheVariants as modes
 use Rattle.format_json_pieces.specs.declared.begun.Step.TheVariants as steps
 use Rattle.format_json_pieces.specs.declared.inside.Inner.{Inner}
 
-pub space_by : (P : ℕ → Type 0) → P 32 → P 9 → P 10 → P 13 → (b : ℕ) → IsSpace b → P b
+pub space_by : (P : ℕ → Type 0) → P 32 → P 9 → P 10 → P 13 → (b : ℕ) → IsWhitespaceByte b → P b
 space_by P w x y z b (inl e) = subst P (sym e) w
 space_by P w x y z b (inr (inl e)) = subst P (sym e) x
 space_by P w x y z b (inr (inr (inl e))) = subst P (sym e) y
 space_by P w x y z b (inr (inr (inr e))) = subst P (sym e) z
 
-space_low : (b : ℕ) → IsSpace b → b < 128
+space_low : (b : ℕ) → IsWhitespaceByte b → b < 128
 space_low b is = grind (arith, is)
 
 -- the bracket of an object (`true`) or of an array (`false`)
@@ -41,14 +43,16 @@ module _ (ends : List ℕ → Type 0) (level : ℕ) where
   text_goes : (held : List Bracket)
       → Goes (λ p. At ends level (modes.Text p) held) (AfterValue ends level held)
   text_goes held = record {
-    goes = λ p q b l e x. subst (λ (i : Inner). Next ends level held b l (within_text i)) (sym e) x;
+    goes = λ p q b l e x. subst (λ (i : Inner). Next ends level held b l (step_in_text i))
+        (sym e) x;
     ends = λ l x. x;
   }
 
   name_goes : (held : List Bracket)
       → Goes (λ p. At ends level (modes.Name p) held) (At ends level modes.Colon held)
   name_goes held = record {
-    goes = λ p q b l e x. subst (λ (i : Inner). Next ends level held b l (within_name i)) (sym e) x;
+    goes = λ p q b l e x. subst (λ (i : Inner). Next ends level held b l (step_in_name i))
+        (sym e) x;
     ends = λ l x. x;
   }
 
@@ -67,16 +71,16 @@ module _ (ends : List ℕ → Type 0) (level : ℕ) where
   module _ (rest : List ℕ) where
     gap_on : {A : List ℕ → Type 0} → ((l : List ℕ) → A l → A (32 ∷ l))
         → ((l : List ℕ) → A l → A (9 ∷ l)) → ((l : List ℕ) → A l → A (10 ∷ l))
-        → ((l : List ℕ) → A l → A (13 ∷ l)) → Passes rest IsGap A A
+        → ((l : List ℕ) → A l → A (13 ∷ l)) → Passes rest IsWhitespace A A
     gap_on {A} w x y z =
         all_pass rest space_low (space_by (λ b. (l : List ℕ) → A l → A (b ∷ l)) w x y z)
 
     pub value_gap : (held : List Bracket)
-        → Passes rest IsGap (At ends level modes.Value held) (At ends level modes.Value held)
+        → Passes rest IsWhitespace (At ends level modes.Value held) (At ends level modes.Value held)
     value_gap held = gap_on (λ l x. x) (λ l x. x) (λ l x. x) (λ l x. x)
 
     pub after_gap : (k : Bracket) (held : List Bracket)
-        → Passes rest IsGap (At ends level modes.After (k ∷ held))
+        → Passes rest IsWhitespace (At ends level modes.After (k ∷ held))
         (At ends level modes.After (k ∷ held))
     after_gap k held = gap_on (λ l x. x) (λ l x. x) (λ l x. x) (λ l x. x)
 
@@ -94,12 +98,12 @@ module _ (ends : List ℕ → Type 0) (level : ℕ) where
       Items l = First l × At ends level modes.Item (bracket keyed ∷ held) l
 
     first_gap : (keyed : Bool) (held : List Bracket)
-        → Passes rest IsGap (First keyed held) (First keyed held)
+        → Passes rest IsWhitespace (First keyed held) (First keyed held)
     first_gap true held = gap_on (λ l x. x) (λ l x. x) (λ l x. x) (λ l x. x)
     first_gap false held = gap_on (λ l x. x) (λ l x. x) (λ l x. x) (λ l x. x)
 
     items_gap : (keyed : Bool) (held : List Bracket)
-        → Passes rest IsGap (Items keyed held) (Items keyed held)
+        → Passes rest IsWhitespace (Items keyed held) (Items keyed held)
     items_gap true held = gap_on (λ l x. x) (λ l x. x) (λ l x. x) (λ l x. x)
     items_gap false held = gap_on (λ l x. x) (λ l x. x) (λ l x. x) (λ l x. x)
 
@@ -126,13 +130,14 @@ module _ (ends : List ℕ → Type 0) (level : ℕ) where
     closing_on : (keyed : Bool) (held : List Bracket)
         → Passes rest (IsByte (IsClosing keyed)) (λ l. First keyed held l × After keyed held l)
         (AfterValue ends level held)
-    closing_on true held = this_pass rest 125 (omega arith) (λ l x. (x, x))
-    closing_on false held = this_pass rest 93 (omega arith) (λ l x. (x, x))
+    closing_on true held = given_byte_passes rest 125 (omega arith) (λ l x. (x, x))
+    closing_on false held = given_byte_passes rest 93 (omega arith) (λ l x. (x, x))
 
     opening_on : (keyed : Bool) (held : List Bracket) → length held < level
-        → Passes rest (IsByte (λ b. b ≡ opening keyed)) (Started ends level held) (First keyed held)
-    opening_on true held few = this_pass rest 123 (omega arith) (λ l x mode. (few, x))
-    opening_on false held few = this_pass rest 91 (omega arith) (λ l x mode. (few, x))
+        → Passes rest (IsByte (λ b. b ≡ opening_bracket keyed)) (Started ends level held)
+        (First keyed held)
+    opening_on true held few = given_byte_passes rest 123 (omega arith) (λ l x mode. (few, x))
+    opening_on false held few = given_byte_passes rest 91 (omega arith) (λ l x mode. (few, x))
 
     comma_on : (keyed : Bool) (held : List Bracket) (l : List ℕ) → Items keyed held l
         → After keyed held (44 ∷ l)
@@ -145,7 +150,7 @@ module _ (ends : List ℕ → Type 0) (level : ℕ) where
         then_pass (items_gap true held)
         (then_pass (string_on rest (name_goes (Object ∷ held)) (λ l x. (x, x)))
         (then_pass (gap_on {A = At ends level modes.Colon (Object ∷ held)} (λ l x. x) (λ l x. x)
-        (λ l x. x) (λ l x. x)) (this_pass rest 58 (omega arith) (λ l x. x))))
+        (λ l x. x) (λ l x. x)) (given_byte_passes rest 58 (omega arith) (λ l x. x))))
 
     module _ {V : List ℕ → Type 0} (held : List Bracket) where
       item_on : (keyed : Bool)
@@ -153,24 +158,25 @@ module _ (ends : List ℕ → Type 0) (level : ℕ) where
           → Passes rest (IsItem keyed V) (Items keyed held) (After keyed held)
       item_on true v =
           then_pass (key_on held) (then_pass (value_gap (Object ∷ held))
-          (then_pass (wider (λ l x. x) (value_here (Object ∷ held)) v) (after_gap Object held)))
+          (then_pass (passes_wider (λ l x. x) (value_here (Object ∷ held)) v)
+          (after_gap Object held)))
       item_on false v =
           then_pass (items_gap false held)
-          (then_pass (wider (λ l x. x) (value_item held) v)
+          (then_pass (passes_wider (λ l x. x) (value_item held) v)
           (after_gap Array held))
 
       nested_on : (keyed : Bool) → length held < level
           → Passes rest V (Started ends level (bracket keyed ∷ held)) (After keyed held)
-          → Passes rest (Then (IsByte (λ b. b ≡ opening keyed)) (IsNestedTail keyed V))
+          → Passes rest (Then (IsByte (λ b. b ≡ opening_bracket keyed)) (IsNestedTail keyed V))
           (Started ends level held) (AfterValue ends level held)
       nested_on keyed few v =
           let close = closing_on keyed held in
           then_pass (opening_on keyed held few)
           (either_pass (then_pass (first_gap keyed held)
-          (wider (λ l x. x) (λ l x. x.0) close))
-          (then_pass (wider (λ l x. x) (λ l x. x.0)
+          (passes_wider (λ l x. x) (λ l x. x.0) close))
+          (then_pass (passes_wider (λ l x. x) (λ l x. x.0)
           (list_pass rest (comma_on keyed held) (item_on keyed v)))
-          (wider (λ l x. x) (λ l x. x.1) close)))
+          (passes_wider (λ l x. x) (λ l x. x.1) close)))
 
     -- ---- values
 
@@ -181,7 +187,7 @@ module _ (ends : List ℕ → Type 0) (level : ℕ) where
     abbrev pub Walks : (List ℕ → Type 0) → List Bracket → Type 0
     Walks P held =
         (xs cs : List ℕ) → P xs → Spells rest (AfterValue ends level held) cs
-        → (StartsWith IsNumeric xs → Stops cs) → Spells rest (Started ends level held) (xs ++ cs)
+        → (StartsWith BeginsNumber xs → Stops cs) → Spells rest (Started ends level held) (xs ++ cs)
 
     words : (held : List Bracket)
         → Passes rest IsWord (Started ends level held) (AfterValue ends level held)
@@ -190,10 +196,10 @@ module _ (ends : List ℕ → Type 0) (level : ℕ) where
         (either_pass (word_pass rest (116 ∷ 114 ∷ 117 ∷ 101 ∷ []) (omega arith) (λ l x mode. x))
         (word_pass rest (102 ∷ 97 ∷ 108 ∷ 115 ∷ 101 ∷ []) (omega arith) (λ l x mode. x)))
 
-    numeric : (xs : List ℕ) → IsNumber xs → StartsWith IsNumeric xs
+    numeric : (xs : List ℕ) → IsNumber xs → StartsWith BeginsNumber xs
     numeric xs is =
         let b = number_starts xs is in
-        subst (λ l. StartsWith IsNumeric l) (sym b.begins) (grind (arith, b.is))
+        subst (λ l. StartsWith BeginsNumber l) (sym b.begins) (grind (arith, b.is))
 
     scalar_on : (held : List Bracket) → Walks IsScalar held
     scalar_on held xs cs (inl is) x stops =

@@ -101,10 +101,10 @@ words_begin =
     (begins_wider (λ c e. inr (inr e))
     (spelled_begins 102 (97 ∷ 108 ∷ 115 ∷ 101 ∷ []) (Some false))))
 
-abbrev pub IsNumeric : ℕ → Type 0
-IsNumeric c = (c ≡ 45) ⊎ IsDecDigit c
+abbrev pub BeginsNumber : ℕ → Type 0
+BeginsNumber c = (c ≡ 45) ⊎ IsDecDigit c
 
-no_letter : (c : ℕ) → IsNumeric c → IsLetter c → ⊥
+no_letter : (c : ℕ) → BeginsNumber c → IsLetter c → ⊥
 no_letter c (inl x) (inl e) = absurd (omega (arith, x, e))
 no_letter c (inl x) (inr (inl e)) = absurd (omega (arith, x, e))
 no_letter c (inl x) (inr (inr e)) = absurd (omega (arith, x, e))
@@ -117,7 +117,7 @@ quote_letter c x (inl e) = absurd (omega (arith, x, e))
 quote_letter c x (inr (inl e)) = absurd (omega (arith, x, e))
 quote_letter c x (inr (inr e)) = absurd (omega (arith, x, e))
 
-quote_numeric : (c : ℕ) → c ≡ 34 → IsNumeric c → ⊥
+quote_numeric : (c : ℕ) → c ≡ 34 → BeginsNumber c → ⊥
 quote_numeric c x (inl e) = absurd (omega (arith, x, e))
 quote_numeric c x (inr e) = absurd (omega (arith, x, e))
 
@@ -127,7 +127,7 @@ Opens c = (IsMultispace c → ⊥) × (c ≡ 93 → ⊥)
 
 -- and those that have no others in them, with no opening bracket either
 abbrev pub OpensScalar : ℕ → Type 0
-OpensScalar c = IsLetter c ⊎ (IsNumeric c ⊎ (c ≡ 34))
+OpensScalar c = IsLetter c ⊎ (BeginsNumber c ⊎ (c ≡ 34))
 
 no_white : (c n : ℕ) → c ≡ n → 33 < n → IsMultispace c → ⊥
 no_white c n e most (inl (inl f)) = absurd (omega (arith, e, most, f))

@@ -27,7 +27,7 @@ use Rattle.winnow_expression_trees.specs.OneTree.Unique.{one_tree}
 use Rattle.winnow_expression_trees.specs.Alike.{AlikeFirst, AlikeInfix, AlikeNext}
 use Rattle.winnow_expression_trees.specs.Items.{AreItems, FirstItems, HasValue, Items, ItemsTree}
 use Rattle.winnow_expression_trees.specs.Items.{NextItems, ReadsItems}
-use Rattle.winnow_expression_trees.specs.Reading.{Over}
+use Rattle.winnow_expression_trees.specs.Reading.{IsTreeOver}
 use Rattle.winnow_expression_trees.specs.Tree.{Tree, leaf, before, behind, between}
 
 -- A tree over the items that the tokens start with respects precedence at a level. It has this
@@ -139,7 +139,7 @@ module _ {T V F G H : Type 0} (operand : Items T V) (prefix : Items T (Prefix F)
         (one_tree decided level tokens t u rest behind_ b c ot kt ou ku).1
 
     over_front : (r : Tree V F G H) (i j : List T)
-        → Over (FirstItems operand prefix) (NextItems postfix infix_) r i j
+        → IsTreeOver (FirstItems operand prefix) (NextItems postfix infix_) r i j
         → (front : List T) × (i ≡ front ++ j)
     over_front (leaf v) i j over = operands.front i v j over
     over_front (before p f r) i j (k, (none, read), over) =
@@ -161,7 +161,8 @@ module _ {T V F G H : Type 0} (operand : Items T V) (prefix : Items T (Prefix F)
   module _ (operands : AreItems length operand) (prefixes : AreItems length prefix)
       (postfixes : AreItems length postfix) (infixes : AreItems length infix_) where
     over_fewer : (r : Tree V F G H) (i j : List T)
-        → Over (FirstItems operand prefix) (NextItems postfix infix_) r i j → length j < length i
+        → IsTreeOver (FirstItems operand prefix) (NextItems postfix infix_) r i j
+        → length j < length i
     over_fewer (leaf v) i j over = operands.some i v j over
     over_fewer (before p f r) i j (k, (none, read), over) =
         omega (arith, prefixes.some i (p, f) k read, over_fewer r k j over)

@@ -27,16 +27,14 @@ use Rattle.winnow_expression.specs.declared.combinator.places.Next.TheVariants.{
 }
 use Rattle.winnow_expression.specs.declared.combinator.places.Next.TheVariants.{Infix as infix_read}
 use Rattle.winnow_expression_trees.specs.Alike.{AlikeInfix}
-use Rattle.winnow_expression_trees.specs.Items.{AreItems, FirstItems, Gives, GivesOne, ItemDoes}
-use Rattle.winnow_expression_trees.specs.Items.{ItemRuns}
-use Rattle.winnow_expression_trees.specs.Items.{Items}
-use Rattle.winnow_expression_trees.specs.Items.{NextItems, NoItem, ReadsItems, left_at}
-use Rattle.winnow_expression_trees.specs.Items.{HasValue}
-use Rattle.winnow_expression_trees.specs.Keeps.{Keeps}
+use Rattle.winnow_expression_trees.specs.Items.{AreItems, FirstItems, FoldGives, GivesAtMostOne}
+use Rattle.winnow_expression_trees.specs.Items.{ItemDoes, ItemRuns, Items, NextItems, NoItem}
+use Rattle.winnow_expression_trees.specs.Items.{ReadsItems, left_at, HasValue}
+use Rattle.winnow_expression_trees.specs.Keeps.{RespectsPrecedence}
 use Rattle.winnow_expression_trees.specs.OneTree.{IsTheOneTree}
 use Rattle.winnow_expression_trees.specs.Premises.{AlikePostfix, AlikePrefix, FoldAlike, FoldsAlike}
 use Rattle.winnow_expression_trees.specs.Premises.{Premises}
-use Rattle.winnow_expression_trees.specs.Reading.{FirstStep, NextStep, Over}
+use Rattle.winnow_expression_trees.specs.Reading.{IsTreeOver, OperandStep, OperatorStep}
 use Rattle.winnow_expression_trees.specs.Tree.{Tree, leaf, before, behind, between}
 use Rattle.winnow_expression_trees.specs.Value.{Value}
 use Rattle.winnow_expression_trees.specs.Items.Premises.{gives_alike, gives_both_alike, item_end}
@@ -61,13 +59,13 @@ item_err item i j k (inr (none, e, place)) = (none, place, cc)
 pub back_same : {T : Type 0} (i m : Input T) → m ≡ i → back_at i.left m ≡ i
 back_same i m e = ap (λ z. back_at i.left z) e
 
-gives_ok : {T V : Type 0} (given : V → Type 0) (i j : Input T) (v : V) → Gives given i (Ok v) j
+gives_ok : {T V : Type 0} (given : V → Type 0) (i j : Input T) (v : V) → FoldGives given i (Ok v) j
     → given v
 gives_ok given i j v (inl (w, is, e, place)) = subst given (sym (same_ok refl e)) is
 gives_ok given i j v (inr (none, e, place)) = ok_is_err refl e
 
 gives_up : {T V : Type 0} (given : V → Type 0) (i : Input T) (v : V) → given v
-    → Gives given i (Ok v) i
+    → FoldGives given i (Ok v) i
 gives_up given i v is = inl (v, is, refl, refl)
 
 -- The stream keeps no place.
@@ -79,13 +77,13 @@ module _ {S1 S2 S3 S4 T V F G H L : Type 0} (reading : Reading T L) (form : Erro
     (operands : AreItems reading.units operand) (prefixes : AreItems reading.units prefix)
     (postfixes : AreItems reading.units postfix) (infixes : AreItems reading.units infix_) where
   abbrev Before : F → Input T → V → Answer V → Input T → Type 0
-  Before f i v a j = Gives (one f v) i a j
+  Before f i v a j = FoldGives (one f v) i a j
 
   abbrev AfterItems : G → Input T → V → Answer V → Input T → Type 0
-  AfterItems g i v a j = Gives (other g v) i a j
+  AfterItems g i v a j = FoldGives (other g v) i a j
 
   abbrev Between : H → Input T → V → V → Answer V → Input T → Type 0
-  Between h i v w a j = Gives (two h v w) i a j
+  Between h i v w a j = FoldGives (two h v w) i a j
 
   abbrev whole : Grammar (S1 × S2) (S3 × S4) T V F G H
   whole = parts_grammar reading.units refusal (Ran reading (ItemDoes operand) form)
@@ -95,8 +93,9 @@ module _ {S1 S2 S3 S4 T V F G H L : Type 0} (reading : Reading T L) (form : Erro
   abbrev states : (S1 × S2) × (S3 × S4)
   states = ((s1, s2), (s3, s4))
 
-  pub items_premises : ((f : F) (v : V) → GivesOne (one f v))
-      → ((g : G) (v : V) → GivesOne (other g v)) → ((h : H) (v w : V) → GivesOne (two h v w))
+  pub items_premises : ((f : F) (v : V) → GivesAtMostOne (one f v))
+      → ((g : G) (v : V) → GivesAtMostOne (other g v))
+      → ((h : H) (v w : V) → GivesAtMostOne (two h v w))
       → Premises (λ v w. v ≡ w) (Ran reading (ItemDoes operand) form)
       (Ran reading (ItemDoes prefix) form) (Ran reading (ItemDoes postfix) form)
       (Ran reading (ItemDoes infix_) form) AfterItems
@@ -155,13 +154,14 @@ module _ {S1 S2 S3 S4 T V F G H L : Type 0} (reading : Reading T L) (form : Erro
       (item_run reading prefix form s2 (back_at i.left m) (Ok z) s2 j q).0) in
       ((none.0, subst (λ y. prefix i.left.tokens y j.left.tokens) is read.0), read.1)
 
-  first_down : (i j : Input T) (x : First V F) → FirstStep whole states i x j
+  first_down : (i j : Input T) (x : First V F) → OperandStep whole states i x j
       → FirstItems operand prefix i.left.tokens x j.left.tokens
   first_down i j (Operand v) read = (first_read i j (Operand v) read).0
   first_down i j (prefix_read p f) read = (first_read i j (prefix_read p f) read.0).0
 
   first_up : (i : Input T) (x : First V F) (rest : List T)
-      → FirstItems operand prefix i.left.tokens x rest → FirstStep whole states i x (left_at i rest)
+      → FirstItems operand prefix i.left.tokens x rest
+      → OperandStep whole states i x (left_at i rest)
   first_up i (Operand v) rest is =
       inl (v, some_ran operand operands s1 i v rest is, refl, refl)
   first_up i (prefix_read p f) rest (none, is) = (
@@ -180,7 +180,7 @@ module _ {S1 S2 S3 S4 T V F G H L : Type 0} (reading : Reading T L) (form : Erro
   nothing_at_end item are tokens none o rest is =
       absurd (omega (arith, none, are.some tokens o rest is))
 
-  pub next_down : (i j : Input T) (x : Next G H) → NextStep whole states i x j
+  pub next_down : (i j : Input T) (x : Next G H) → OperatorStep whole states i x j
       → NextItems postfix infix_ i.left.tokens x j.left.tokens × (j ≡ left_at i j.left.tokens)
   next_down i j Nothing (inl (none, e, kept, place)) = (
     (
@@ -228,7 +228,8 @@ module _ {S1 S2 S3 S4 T V F G H L : Type 0} (reading : Reading T L) (form : Erro
       absurd (cc)
 
   next_up : (i : Input T) (x : Next G H) (rest : List T)
-      → NextItems postfix infix_ i.left.tokens x rest → NextStep whole states i x (left_at i rest)
+      → NextItems postfix infix_ i.left.tokens x rest
+      → OperatorStep whole states i x (left_at i rest)
   next_up i Nothing rest (none, missing, same) =
       elim (cases_lt 0 (reading.units i.left.tokens)) [
         | inl some ↦ inr (
@@ -259,8 +260,9 @@ module _ {S1 S2 S3 S4 T V F G H L : Type 0} (reading : Reading T L) (form : Erro
       )
 
   over_down : (r : Tree V F G H) (i j : Input T)
-      → Over (FirstStep whole states) (NextStep whole states) r i j
-      → Over (FirstItems operand prefix) (NextItems postfix infix_) r i.left.tokens j.left.tokens
+      → IsTreeOver (OperandStep whole states) (OperatorStep whole states) r i j
+      → IsTreeOver (FirstItems operand prefix) (NextItems postfix infix_) r i.left.tokens
+      j.left.tokens
   over_down (leaf v) i j over = first_down i j (Operand v) over
   over_down (before p f r) i j (k, read, over) =
       (k.left.tokens, first_down i k (prefix_read p f) read, over_down r k j over)
@@ -275,8 +277,8 @@ module _ {S1 S2 S3 S4 T V F G H L : Type 0} (reading : Reading T L) (form : Erro
   )
 
   over_up : (r : Tree V F G H) (i : Input T) (rest : List T)
-      → Over (FirstItems operand prefix) (NextItems postfix infix_) r i.left.tokens rest
-      → Over (FirstStep whole states) (NextStep whole states) r i (left_at i rest)
+      → IsTreeOver (FirstItems operand prefix) (NextItems postfix infix_) r i.left.tokens rest
+      → IsTreeOver (OperandStep whole states) (OperatorStep whole states) r i (left_at i rest)
   over_up (leaf v) i rest over = first_up i (Operand v) rest over
   over_up (before p f r) i rest (k, read, over) =
       (left_at i k, first_up i (prefix_read p f) k read, over_up r (left_at i k) rest over)
@@ -291,8 +293,8 @@ module _ {S1 S2 S3 S4 T V F G H L : Type 0} (reading : Reading T L) (form : Erro
   )
 
   keeps_down : (level : ℤ) (r : Tree V F G H) (j : Input T) (all : Bool)
-      → Keeps (NextStep whole states) level r j all
-      → Keeps (NextItems postfix infix_) level r j.left.tokens all
+      → RespectsPrecedence (OperatorStep whole states) level r j all
+      → RespectsPrecedence (NextItems postfix infix_) level r j.left.tokens all
   keeps_down level r j all k = record {
     binds = k.binds;
     reaches = k.reaches;
@@ -303,8 +305,8 @@ module _ {S1 S2 S3 S4 T V F G H L : Type 0} (reading : Reading T L) (form : Erro
   }
 
   keeps_up : (level : ℤ) (r : Tree V F G H) (i : Input T) (rest : List T) (all : Bool)
-      → Keeps (NextItems postfix infix_) level r rest all
-      → Keeps (NextStep whole states) level r (left_at i rest) all
+      → RespectsPrecedence (NextItems postfix infix_) level r rest all
+      → RespectsPrecedence (OperatorStep whole states) level r (left_at i rest) all
   keeps_up level r i rest all k = record {
     binds = k.binds;
     reaches = k.reaches;

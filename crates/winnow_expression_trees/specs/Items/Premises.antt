@@ -15,12 +15,11 @@ use Rattle.parser_definitions.specs.Left.{left_of}
 use Rattle.parser_definitions.specs.Outcome.{Outcome, Setting, backs, outcome_of, setting_of, took}
 use Rattle.winnow_expression.specs.Did.{here, is_here}
 use Rattle.winnow_expression.specs.Units.{units_left}
-use Rattle.winnow_expression_trees.specs.Items.{AreItems, Gives, GivesOne, ItemDoes, ItemRuns}
-use Rattle.winnow_expression_trees.specs.Items.{Items}
-use Rattle.winnow_expression_trees.specs.Items.{left_at}
+use Rattle.winnow_expression_trees.specs.Items.{AreItems, FoldGives, GivesAtMostOne, ItemDoes}
+use Rattle.winnow_expression_trees.specs.Items.{ItemRuns, Items, left_at}
 use Rattle.winnow_expression_trees.specs.Premises.{FoldAlike, FoldsAlike}
 use Rattle.winnow_expression_trees.specs.Premises.{IsStateless}
-use Rattle.winnow_expression_trees.specs.Premises.Decided.{Moves}
+use Rattle.winnow_expression_trees.specs.Premises.Decided.{ConsumesInput}
 
 -- ---- the premises
 
@@ -96,7 +95,7 @@ items_stateless {S} {T} {O = O} reading alike item form s are self = record {
 -- and each item consumes
 pub items_move : {S T L O : Type 0} (reading : Reading T L) (item : Items T O) (form : ErrorForm)
     (s : S) → AreItems reading.units item
-    → Moves reading.units (Ran reading (ItemDoes item) form) s
+    → ConsumesInput reading.units (Ran reading (ItemDoes item) form) s
 items_move reading item form s are i j o t r =
     by (item_run reading item form s i (Ok o) t j r).0
   where
@@ -106,8 +105,9 @@ items_move reading item form s are i j o t r =
         (are.some i.left.tokens q rest is)
     by (inr (none, e, place)) = ok_is_err refl e
 
-gives_same : {T V : Type 0} (given : V → Type 0) → GivesOne given → (i j k n : Input T)
-    (a b : Answer V) → Gives given i a j → Gives given k b n → EqualResults (λ v w. v ≡ w) a b
+gives_same : {T V : Type 0} (given : V → Type 0) → GivesAtMostOne given → (i j k n : Input T)
+    (a b : Answer V) → FoldGives given i a j → FoldGives given k b n
+    → EqualResults (λ v w. v ≡ w) a b
 gives_same given single i j k n a b (inl (v, is, e, p)) (inl (w, was, f, q)) =
     both_ok (λ v w. v ≡ w) e f (single v w is was)
 gives_same given single i j k n a b (inl (v, is, e, p)) (inr (none, f, q)) = absurd (none v is)
@@ -116,27 +116,27 @@ gives_same given single i j k n a b (inr (none, e, p)) (inr (none2, f, q)) =
     both_err (λ v w. v ≡ w) e f refl
 
 pub gives_rest : {T V : Type 0} (given : V → Type 0) (i j : Input T) (a : Answer V)
-    → Gives given i a j
+    → FoldGives given i a j
     → j ≡ i
 gives_rest given i j a (inl (v, is, e, p)) = p
 gives_rest given i j a (inr (none, e, p)) = p
 
 pub gives_alike : {F T V : Type 0} (fold : F → V → V → Type 0) (f : F)
-    → ((v : V) → GivesOne (fold f v))
-    → FoldAlike {T = T} (λ v w. v ≡ w) (λ g i v a j. Gives (fold g v) i a j) f f
+    → ((v : V) → GivesAtMostOne (fold f v))
+    → FoldAlike {T = T} (λ v w. v ≡ w) (λ g i v a j. FoldGives (fold g v) i a j) f f
 gives_alike fold f single = record {
   same = λ v w i j k n a b like x y na nb. gives_same (fold f v) (single v) i j k n a b x
-      (subst (λ z. Gives (fold f z) k b n) (sym like) y);
+      (subst (λ z. FoldGives (fold f z) k b n) (sym like) y);
   leaves = λ v i j a x n. gives_rest (fold f v) i j a x;
 }
 
 pub gives_both_alike : {H T V : Type 0} (fold : H → V → V → V → Type 0) (f : H)
-    → ((v w : V) → GivesOne (fold f v w))
-    → FoldsAlike {T = T} (λ v w. v ≡ w) (λ g i v w a j. Gives (fold g v w) i a j) f f
+    → ((v w : V) → GivesAtMostOne (fold f v w))
+    → FoldsAlike {T = T} (λ v w. v ≡ w) (λ g i v w a j. FoldGives (fold g v w) i a j) f f
 gives_both_alike fold f single = record {
   same = λ v x w y i j k n a b like more p q na nb. gives_same (fold f v x) (single v x) i j k n a b
-      p (subst (λ z. Gives (fold f v z) k b n) (sym more)
-      (subst (λ z. Gives (fold f z y) k b n) (sym like) q));
+      p (subst (λ z. FoldGives (fold f v z) k b n) (sym more)
+      (subst (λ z. FoldGives (fold f z y) k b n) (sym like) q));
   leaves = λ v x i j a p n. gives_rest (fold f v x) i j a p;
 }
 
@@ -160,5 +160,5 @@ item_end reading item still are i o rest is =
     }
 
 pub gives_ends : {T V L : Type 0} (reading : Reading T L) (given : V → Type 0) (i j : Input T)
-    (a : Answer V) → Gives given i a j → IsEndOf reading j i
+    (a : Answer V) → FoldGives given i a j → IsEndOf reading j i
 gives_ends reading given i j a r = same_ends reading i j (gives_rest given i j a r)

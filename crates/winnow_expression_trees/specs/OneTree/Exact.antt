@@ -8,25 +8,25 @@ use Rattle.winnow_expression.specs.declared.combinator.places.Next.{Next}
 use Rattle.winnow_expression.specs.declared.combinator.places.Next.TheVariants.{Postfix}
 use Rattle.winnow_expression.specs.declared.combinator.places.Next.TheVariants.{Infix as infix_read}
 use Rattle.winnow_expression.specs.declared.combinator.operators.Infix.{Infix}
-use Rattle.winnow_expression_trees.specs.Reading.{Over, power_of}
+use Rattle.winnow_expression_trees.specs.Reading.{IsTreeOver, power_of}
 use Rattle.winnow_expression_trees.specs.OneTree.TreeCalls.{Reads, Grows, reads_operand}
 use Rattle.winnow_expression_trees.specs.OneTree.TreeCalls.{reads_prefix}
 use Rattle.winnow_expression_trees.specs.OneTree.TreeCalls.{reads_ended, grows_stop, grows_block}
 use Rattle.winnow_expression_trees.specs.OneTree.TreeCalls.{grows_postfix, grows_infix, grows_ended}
-use Rattle.winnow_expression_trees.specs.Keeps.{Reaches, EdgeAbove, Binds, Meets, MeetsHere, Above}
-use Rattle.winnow_expression_trees.specs.Keeps.{Ends, Outcome, Keeps}
+use Rattle.winnow_expression_trees.specs.Keeps.{LeftEdgeReaches, RightEdgeBelow, Binds, Meets}
+use Rattle.winnow_expression_trees.specs.Keeps.{MeetsHere, Above, Ends, Outcome, RespectsPrecedence}
 use Rattle.winnow_expression_trees.specs.OneTree.Alike.{Decided, alike_power}
 
 -- completeness
 above_one : {V F G H : Type 0} (t : Tree V F G H) (p : ℤ) (x : Next G H) → power_of x ≡ Some p
-    → EdgeAbove t p → Above t x
+    → RightEdgeBelow t p → Above t x
 above_one t p x is e q other =
-    let same : p ≡ q = cc in subst (λ z. EdgeAbove t z) same e
+    let same : p ≡ q = cc in subst (λ z. RightEdgeBelow t z) same e
 
 builds : {V F G H P : Type 0} (first : P → First V F → P → Type 0)
     (next : P → Next G H → P → Type 0)
     (t : Tree V F G H) (m : ℤ) (i j k n : P) (x : Next G H) (u : Tree V F G H) (b : Bool)
-    → Binds t → Reaches m t → Over first next t i j → next j x k → Above t x
+    → Binds t → LeftEdgeReaches m t → IsTreeOver first next t i j → next j x k → Above t x
     → Grows first next m t j u n b → Reads first next m i u n b
 builds first next (leaf v) m i j k n x u b binds reaches over read above grows =
     reads_operand m v i j n u b over grows
@@ -49,7 +49,7 @@ builds first next (between o l t) m i j k n x u b binds reaches over read above 
 
 builds_here : {V F G H P : Type 0} (first : P → First V F → P → Type 0)
     (next : P → Next G H → P → Type 0) (t : Tree V F G H) (m : ℤ) (i j k : P) (c : Infix H)
-    → Binds t → Reaches m t → Over first next t i j → next j (infix_read c) k
+    → Binds t → LeftEdgeReaches m t → IsTreeOver first next t i j → next j (infix_read c) k
     → MeetsHere m t (left_power c) → Reads first next m i t j true
 builds_here first next t m i j k c binds reaches over read (above, reach, top) =
     builds first next t m i j k j (infix_read c) t true binds reaches over read
@@ -57,7 +57,7 @@ builds_here first next t m i j k c binds reaches over read (above, reach, top) =
 
 builds_met : {V F G H P : Type 0} (first : P → First V F → P → Type 0)
     (next : P → Next G H → P → Type 0) (t : Tree V F G H) (m : ℤ) (i j k : P) (c : Infix H)
-    → Binds t → Reaches m t → Over first next t i j → next j (infix_read c) k
+    → Binds t → LeftEdgeReaches m t → IsTreeOver first next t i j → next j (infix_read c) k
     → Meets t (left_power c)
     → Reads first next m i t j true
 builds_met first next (leaf v) m i j k c binds reaches over read e = absurd e
@@ -84,7 +84,7 @@ builds_met first next (between o l t) m i j k c binds reaches over read (inr e) 
 outcome_reads : {V F G H P : Type 0} (first : P → First V F → P → Type 0)
     (next : P → Next G H → P → Type 0) (m : ℤ) (t : Tree V F G H) (i j k : P) (x : Next G H)
     (b : Bool)
-    → Binds t → Reaches m t → Over first next t i j → next j x k → Outcome b m t x
+    → Binds t → LeftEdgeReaches m t → IsTreeOver first next t i j → next j x k → Outcome b m t x
     → Reads first next m i t j b
 outcome_reads first next m t i j k x false binds reaches over read (below, above) =
     builds first next t m i j k j x t false binds reaches over read above
@@ -94,10 +94,10 @@ outcome_reads first next m t i j k x true binds reaches over read (o, is, inl me
 outcome_reads first next m t i j k x true binds reaches over read (o, is, inr met) =
     builds_here first next t m i j k o binds reaches over (subst (λ z. next j z k) is read) met
 
-pub complete : {V F G H P : Type 0} (first : P → First V F → P → Type 0)
+pub reads_tree_over : {V F G H P : Type 0} (first : P → First V F → P → Type 0)
     (next : P → Next G H → P → Type 0) (m : ℤ) (t : Tree V F G H) (i j : P) (b : Bool)
-    → Over first next t i j → Keeps next m t j b → Reads first next m i t j b
-complete first next m t i j b over keeps =
+    → IsTreeOver first next t i j → RespectsPrecedence next m t j b → Reads first next m i t j b
+reads_tree_over first next m t i j b over keeps =
     outcome_reads first next m t i j keeps.then_at keeps.then_read b keeps.binds keeps.reaches
     over keeps.reads keeps.ends
 
@@ -106,7 +106,7 @@ pub above_later : {V F G H P : Type 0} {av : V → V → Type 0} {af : F → F �
     {ag : G → G → Type 0} {ah : H → H → Type 0} {first : P → First V F → P → Type 0}
     {next : P → Next G H → P → Type 0} (d : Decided av af ag ah first next) (p : ℤ)
     (r : Tree V F G H) (i k n : P) (x y : Next G H) → next i x k → Ends p r x → next i y n
-    → (q : ℤ) → power_of y ≡ Some q → (q <ℤ p) × EdgeAbove r q
+    → (q : ℤ) → power_of y ≡ Some q → (q <ℤ p) × RightEdgeBelow r q
 above_later {ag = ag} {ah} d p r i k n x y read ends later q is =
     let same = alike_power ag ah x y (d.nexts i k n x y read later).0 ∙ is in
     (ends.0 q same, ends.1 q same)

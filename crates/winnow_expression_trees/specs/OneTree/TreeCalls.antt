@@ -11,7 +11,7 @@ use Rattle.winnow_expression.specs.declared.combinator.places.Next.{Next}
 use Rattle.winnow_expression.specs.declared.combinator.places.Next.TheVariants.{Postfix}
 use Rattle.winnow_expression.specs.declared.combinator.places.Next.TheVariants.{Infix as infix_read}
 use Rattle.winnow_expression.specs.declared.combinator.operators.Infix.{Infix}
-use Rattle.winnow_expression_trees.specs.Reading.{Below}
+use Rattle.winnow_expression_trees.specs.Reading.{IsBelowPower}
 
 mutual
   -- A call of a least power reads a tree, from one place to another; every open call ends, or not.
@@ -31,7 +31,7 @@ mutual
       (next : P → Next G H → P → Type 0) : ℤ → Tree V F G H → P → Tree V F G H → P → Bool
       → Type 0 where
     grows_stop : (m : ℤ) (l : Tree V F G H) (i j : P) (x : Next G H) → next i x j
-        → Below m x → Grows first next m l i l i false
+        → IsBelowPower m x → Grows first next m l i l i false
     grows_block : (m : ℤ) (o : Infix H) (l : Tree V F G H) (i j : P) → next i (infix_read o) j
         → m ≤ℤ left_power o → top_neither l ≡ Some (left_power o) → Grows first next m l i l i true
     grows_postfix : (m p : ℤ) (f : G) (l t : Tree V F G H) (i j k : P) (b : Bool)

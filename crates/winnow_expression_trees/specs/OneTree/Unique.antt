@@ -6,8 +6,8 @@ use Rattle.winnow_expression.specs.Operators.{right_power}
 use Rattle.winnow_expression_trees.specs.Tree.{Tree, leaf, before, behind, between}
 use Rattle.winnow_expression.specs.declared.combinator.places.First.{First}
 use Rattle.winnow_expression.specs.declared.combinator.places.Next.{Next}
-use Rattle.winnow_expression_trees.specs.Reading.{Over}
-use Rattle.winnow_expression_trees.specs.Keeps.{Keeps}
+use Rattle.winnow_expression_trees.specs.Reading.{IsTreeOver}
+use Rattle.winnow_expression_trees.specs.Keeps.{RespectsPrecedence}
 use Rattle.winnow_expression_trees.specs.OneTree.TreeCalls.{Reads, Grows, reads_operand}
 use Rattle.winnow_expression_trees.specs.OneTree.TreeCalls.{reads_prefix}
 use Rattle.winnow_expression_trees.specs.OneTree.TreeCalls.{reads_ended, grows_stop, grows_block}
@@ -16,10 +16,10 @@ use Rattle.winnow_expression_trees.specs.OneTree.Alike.{Decided, alike_top}
 use Rattle.winnow_expression_trees.specs.Alike.{AlikeTree}
 use Rattle.winnow_expression_trees.specs.OneTree.Views.{operand_at, prefix_at, stop_at, postfix_at}
 use Rattle.winnow_expression_trees.specs.OneTree.Views.{infix_at}
-use Rattle.winnow_expression_trees.specs.OneTree.Exact.{complete}
+use Rattle.winnow_expression_trees.specs.OneTree.Exact.{reads_tree_over}
 
-pub clash_flag : {X : Type 0} → false ≡ true → X
-clash_flag e = absurd (cc)
+pub false_is_not_true : {X : Type 0} → false ≡ true → X
+false_is_not_true e = absurd (cc)
 
 module _ {V F G H P : Type 0} {av : V → V → Type 0} {af : F → F → Type 0} {ag : G → G → Type 0}
     {ah : H → H → Type 0} {first : P → First V F → P → Type 0} {next : P → Next G H → P → Type 0}
@@ -40,14 +40,14 @@ module _ {V F G H P : Type 0} {av : V → V → Type 0} {af : F → F → Type 0
               ↦ grows_unique m (before p f r) k t n b grows (before p g s) (refl, alike, same) u
               q c
               (subst (λ y. Grows first next m (before p g s) y u q c) (sym place) goes)
-          | inr ends ↦ clash_flag (flag ∙ ends.0)
+          | inr ends ↦ false_is_not_true (flag ∙ ends.0)
         ]
     reads_unique _ _ _ _ _ (reads_ended m p f i j k r read inner) u q c other =
         let (g, s, z, e, alike, also, more, follows) =
         prefix_at d m i u q c p f j other read in
         let (same, place, flag) = reads_unique p j r k true inner s z e more in
         elim follows [
-          | inl (is, goes) ↦ clash_flag (sym is ∙ sym flag)
+          | inl (is, goes) ↦ false_is_not_true (sym is ∙ sym flag)
           | inr (is, all, tree, stays) ↦ (
             subst (λ y. AlikeTree av af ag ah (before p f r) y) (sym tree) (refl, alike, same),
             place ∙ sym stays,
@@ -93,7 +93,7 @@ module _ {V F G H P : Type 0} {av : V → V → Type 0} {af : F → F → Type 0
                     ↦ grows_unique m (between x l r) k t n b grows (between y o s)
                     (alike, like, same) u q c
                     (subst (λ w. Grows first next m (between y o s) w u q c) (sym place) later)
-                | inr ends ↦ clash_flag (flag ∙ ends.0)
+                | inr ends ↦ false_is_not_true (flag ∙ ends.0)
               ]
         ]
     grows_unique _ _ _ _ _ _ (grows_ended m x l r i j k read reach free inner) o like u q c other =
@@ -104,7 +104,7 @@ module _ {V F G H P : Type 0} {av : V → V → Type 0} {af : F → F → Type 0
           | inr (inr (reaches, free_, s, z, e, more, follows)) ↦
               let (same, place, flag) = reads_unique (right_power x) j r k true inner s z e more in
               elim follows [
-                | inl (is, later) ↦ clash_flag (sym is ∙ sym flag)
+                | inl (is, later) ↦ false_is_not_true (sym is ∙ sym flag)
                 | inr (is, all, tree, stays) ↦ (
                   subst (λ w. AlikeTree av af ag ah (between x l r) w) (sym tree)
                       (alike, like, same),
@@ -116,8 +116,9 @@ module _ {V F G H P : Type 0} {av : V → V → Type 0} {af : F → F → Type 0
 
   -- At most one tree over the reading from an offset respects precedence.
   pub one_tree : (m : ℤ) (i : P) (t u : Tree V F G H) (j k : P) (b c : Bool)
-      → Over first next t i j → Keeps next m t j b → Over first next u i k → Keeps next m u k c
+      → IsTreeOver first next t i j → RespectsPrecedence next m t j b
+      → IsTreeOver first next u i k → RespectsPrecedence next m u k c
       → AlikeTree av af ag ah t u × (j ≡ k) × (b ≡ c)
   one_tree m i t u j k b c ot kt ou ku =
-      reads_unique m i t j b (complete first next m t i j b ot kt) u k c
-      (complete first next m u i k c ou ku)
+      reads_unique m i t j b (reads_tree_over first next m t i j b ot kt) u k c
+      (reads_tree_over first next m u i k c ou ku)

@@ -13,7 +13,7 @@ use Rattle.winnow_expression.specs.declared.combinator.places.Next.{Next}
 use Rattle.winnow_expression.specs.declared.combinator.places.Next.TheVariants.{Nothing, Postfix}
 use Rattle.winnow_expression.specs.declared.combinator.places.Next.TheVariants.{Infix as infix_read}
 use Rattle.winnow_expression.specs.declared.combinator.operators.Infix.{Infix}
-use Rattle.winnow_expression_trees.specs.Reading.{Below, power_of}
+use Rattle.winnow_expression_trees.specs.Reading.{IsBelowPower, power_of}
 use Rattle.winnow_expression_trees.specs.OneTree.TreeCalls.{Reads, Grows, reads_operand}
 use Rattle.winnow_expression_trees.specs.OneTree.TreeCalls.{reads_prefix}
 use Rattle.winnow_expression_trees.specs.OneTree.TreeCalls.{reads_ended, grows_stop, grows_block}
@@ -60,7 +60,7 @@ GrowsAs first next m l i t n b (infix_read o) k = InfixGoes first next m l i t n
 
 stop_as : {V F G H P : Type 0} (first : P → First V F → P → Type 0)
     (next : P → Next G H → P → Type 0)
-    (m : ℤ) (l : Tree V F G H) (i : P) (x : Next G H) (k : P) → Below m x
+    (m : ℤ) (l : Tree V F G H) (i : P) (x : Next G H) (k : P) → IsBelowPower m x
     → GrowsAs first next m l i l i false x k
 stop_as first next m l i Nothing k below = (refl, refl, refl)
 stop_as first next m l i (Postfix p f) k below = inl (below p refl, (refl, refl, refl))
@@ -126,7 +126,7 @@ module _ {V F G H P : Type 0} {av : V → V → Type 0} {af : F → F → Type 0
 
   stop_case : (m : ℤ) (l : Tree V F G H) (i : P) (t : Tree V F G H) (n : P) (b : Bool)
       (x y : Next G H)
-      (k : P) → power_of x ≡ power_of y → Below m x → GrowsAs first next m l i t n b y k
+      (k : P) → power_of x ≡ power_of y → IsBelowPower m x → GrowsAs first next m l i t n b y k
       → Stops l i t n false b
   stop_case m l i t n b x Nothing k same below how = how
   stop_case m l i t n b x (Postfix p f) k same below (inl (less, stops)) = stops
@@ -208,7 +208,7 @@ module _ {V F G H P : Type 0} {av : V → V → Type 0} {af : F → F → Type 0
 
   pub stop_at : (m : ℤ) (l : Tree V F G H) (i : P) (t : Tree V F G H) (n : P) (b : Bool)
       (x : Next G H)
-      (j : P) → Grows first next m l i t n b → next i x j → Below m x → Stops l i t n false b
+      (j : P) → Grows first next m l i t n b → next i x j → IsBelowPower m x → Stops l i t n false b
   stop_at m l i t n b x j grows read below =
       let (y, k, other, how) = grows_as first next m l i t n b grows in
       let (same, place) = d.nexts i j k x y read other in

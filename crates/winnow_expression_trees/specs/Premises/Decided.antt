@@ -33,8 +33,8 @@ stateless_wider {one = one} {other} wider c = record {
 -- ---- parts that keep their state
 
 -- Unless memory runs out, calls from this state keep it and change only the position.
-abbrev pub Stays : {S T O : Type 0} → Runs S T O → S → Type 0
-Stays {S} {T} {O} run s =
+abbrev pub KeepsState : {S T O : Type 0} → Runs S T O → S → Type 0
+KeepsState {S} {T} {O} run s =
     (i j : Input T) (a : Answer O) (t : S) → run s i a t j → NotMemory a
     → (t ≡ s) × (j.status ≡ i.status)
 
@@ -52,7 +52,7 @@ StaysBy {S} {T} {O} does s = (at : Setting) (w : Left T) (y : Outcome (End S T) 
     → does at s w y → LeavesAs s w.recorded y
 
 pub did_stays : {S T L O : Type 0} (reading : Reading T L) (does : Does S T O) (form : ErrorForm)
-    (s : S) → StaysBy does s → Stays (Ran reading does form) s
+    (s : S) → StaysBy does s → KeepsState (Ran reading does form) s
 did_stays {S} {T} {O = O} reading does form s stays i j a t (ends, more, possible, did) other =
     by a other (stays (setting_of form i) (left_of i) (outcome_of a (t, left_of j)) did)
   where
@@ -163,7 +163,7 @@ lacks_none modal false need end e is = absurd (cc)
 lacks_none plain more need end e is = absurd (cc)
 
 -- If it returns an output in this state, it consumes input.
-abbrev pub Moves : {S T O : Type 0} → (List T → ℕ) → Runs S T O → S → Type 0
-Moves {S} {T} {O} units run s =
+abbrev pub ConsumesInput : {S T O : Type 0} → (List T → ℕ) → Runs S T O → S → Type 0
+ConsumesInput {S} {T} {O} units run s =
     (i j : Input T) (o : O) (t : S) → run s i (Ok o) t j
     → units_left units j < units_left units i

@@ -14,7 +14,7 @@ use Rattle.parser_definitions.specs.Outcome.{Alike, Does, outcome_of, setting_of
 use Rattle.winnow_core.specs.Decided.{EqualResults}
 use Rattle.winnow_core.specs.Runs.{Runs}
 use Rattle.winnow_expression.specs.Did.{here, is_here}
-use Rattle.winnow_expression_trees.specs.Premises.Decided.{Stays, did_stays, leaves_by}
+use Rattle.winnow_expression_trees.specs.Premises.Decided.{KeepsState, did_stays, leaves_by}
 use Rattle.winnow_expression_trees.specs.Premises.{IsStateless, NotMemory}
 
 -- the results of equal outcomes, neither of which is out of memory
@@ -54,7 +54,7 @@ stateless_within within c = record {
 -- a part that the law of its definition makes deterministic, in a state that its calls keep
 pub law_stateless : {S T L O : Type 0} (reading : Reading T L) {does : Does S T O} {stable : Type 0}
     {alike : O → O → Type 0} → Lawful stable alike does → (form : ErrorForm) (s : S)
-    → Stays (Ran reading does form) s → IsStateless alike (Ran reading does form) s
+    → KeepsState (Ran reading does form) s → IsStateless alike (Ran reading does form) s
 law_stateless reading {alike = alike} law form s stays = record {
   keeps = stays;
   decided = λ i j k a b t u r q na nb.

@@ -3,7 +3,7 @@ ghost use Rattle.std.specs.Prelude.{◌≡◌, ℕ};
 ghost use Rattle.streams.specs.Bytes.{bytes_reading};
 ghost use Rattle.parser_definitions.specs.Does.{Ran};
 ghost use Rattle.winnow_expression_trees.specs.Premises.{IsStateless};
-ghost use Rattle.winnow_expression_trees.specs.Premises.Decided.{Moves, Stays};
+ghost use Rattle.winnow_expression_trees.specs.Premises.Decided.{ConsumesInput, KeepsState};
 ghost use Rattle.winnow_expression_trees.specs.Premises.Laws.{AlikeWithSpan};
 
 use crate::laws::Likeness;
@@ -27,7 +27,7 @@ type Bytes = &'static [u8];
 /// deterministic_parts_are_stateless::<Digit1, &[u8], &[u8], EmptyError>();
 /// ```
 pub fn deterministic_parts_are_stateless<P: Parser<I, O, E>, I: Stream, O, E: ParserError<I>>()
-    ensures { (s : P.State) → P.terms.premise → Stays (Ran I.reading P.does E.form) s
+    ensures { (s : P.State) → P.terms.premise → KeepsState (Ran I.reading P.does E.form) s
         → IsStateless P.terms.alike (Ran I.reading P.does E.form) s }
 {}
 
@@ -70,7 +70,7 @@ pub fn spans_are_stateless<
 /// a_byte_consumes::<EmptyError>();
 /// ```
 pub fn a_byte_consumes<E: ParserError<Bytes>>()
-    ensures { (b : ℕ) → Moves bytes_reading.units
+    ensures { (b : ℕ) → ConsumesInput bytes_reading.units
         (Ran bytes_reading ⟦<u8 as Parser<Bytes, u8, E>>⟧.does E.form) b }
 {}
 
@@ -84,8 +84,8 @@ pub fn a_byte_consumes<E: ParserError<Bytes>>()
 /// a_value_consumes::<&[u8], u8, &str, u8, EmptyError>();
 /// ```
 pub fn a_value_consumes<I: Stream, O: Drop, U: Clone, P: Parser<I, O, E>, E: ParserError<I>>()
-    ensures { (s : P.State) (x : U) → Moves I.reading.units (Ran I.reading P.does E.form) s
-        → Moves I.reading.units
+    ensures { (s : P.State) (x : U) → ConsumesInput I.reading.units (Ran I.reading P.does E.form) s
+        → ConsumesInput I.reading.units
         (Ran I.reading ⟦<Value<P, I, O, U, E> as Parser<I, U, E>>⟧.does E.form)
         (s, x) }
 {}
@@ -105,8 +105,9 @@ pub fn a_choice_consumes<
     P2: Parser<I, O, E>,
     E: ParserError<I>,
 >()
-    ensures { (s : P1.State) (u : P2.State) → Moves I.reading.units (Ran I.reading P1.does E.form) s
-        → Moves I.reading.units (Ran I.reading P2.does E.form) u
-        → Moves I.reading.units
+    ensures { (s : P1.State) (u : P2.State)
+        → ConsumesInput I.reading.units (Ran I.reading P1.does E.form) s
+        → ConsumesInput I.reading.units (Ran I.reading P2.does E.form) u
+        → ConsumesInput I.reading.units
         (Ran I.reading ⟦<AltParser<(P1, P2), I, O, E> as Parser<I, O, E>>⟧.does E.form) (s, u) }
 {}

@@ -1,5 +1,5 @@
 use Rattle.std.proofs.Common.{[], refl, sym, ap, arith, ◌++◌}
-use Rattle.format_csv_records.proofs.Alone.{doubled_none, unclosed_here}
+use Rattle.format_csv_records.proofs.Alone.{doubled_nil, unclosed_here}
 use Rattle.format_csv_records.proofs.Placing.{puts_none, quote_behind, quoted_closed, quoted_more}
 use Rattle.format_csv_records.proofs.buffers.put_quoted.Goals as goal
 
@@ -8,7 +8,7 @@ runs-init c = record {
   begun = [];
   read = record {
     done = [];
-    whole = ap (λ l. l ++ c.args.bytes.now) (sym (doubled_none c.args.quote));
+    whole = ap (λ l. l ++ c.args.bytes.now) (sym (doubled_nil c.args.quote));
     all = refl;
   };
   puts = puts_none c.args.at _;

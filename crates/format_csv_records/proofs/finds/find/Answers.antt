@@ -1,15 +1,14 @@
 use Rattle.std.proofs.Common.{◌∙◌, arith, inr, refl, sym}
-use Rattle.format_csv_records.proofs.Finding.{found_over, grew_more, grew_none, state_on_more_bytes}
-use Rattle.format_csv_records.proofs.Finding.{state_on_same_bytes}
-use Rattle.format_csv_records.proofs.Finding.{small_more, small_none}
-use Rattle.format_csv_records.proofs.Finding.{same_error, ok_is_not_err}
+use Rattle.format_csv_records.proofs.Finding.{found_over, grew_trans, grew_refl}
+use Rattle.format_csv_records.proofs.Finding.{state_on_more_bytes, state_on_same_bytes, small_more}
+use Rattle.format_csv_records.proofs.Finding.{small_none, same_error, ok_is_not_err}
 use Rattle.format_csv_records.specs.declared.error.ReadError.TheVariants.{OutOfMemory}
 use Rattle.format_csv_records.proofs.finds.find.Goals as goal
 
 pub loop-found-init : goal.loop-found-init
 loop-found-init g c = record {
   of = c.requires;
-  grew = grew_none _ _;
+  grew = grew_refl _ _;
   small = small_none _ _ _;
 }
 
@@ -34,7 +33,7 @@ returns-then-count-eq0-clause-of g c =
 
 pub returns-then-count-eq0-clause-grew : goal.returns-then-count-eq0-clause-grew
 returns-then-count-eq0-clause-grew g c =
-    grew_more _ _ _ _ _ _ c.loop-found.invariant.grew c.in-Ok.ensures.grew
+    grew_trans _ _ _ _ _ _ c.loop-found.invariant.grew c.in-Ok.ensures.grew
 
 pub returns-then-count-eq0-clause-found : goal.returns-then-count-eq0-clause-found
 returns-then-count-eq0-clause-found g c = inr (c.in-Ok.ensures.told.1 c.if-count-eq0.true)
@@ -53,7 +52,7 @@ pub loop-found-preserved : goal.loop-found-preserved
 loop-found-preserved g c = record {
   of = state_on_more_bytes _ _ _ _ _ _ c.held.ensures c.in-None.ensures.kept
       c.in-Ok.ensures.grew.grew;
-  grew = grew_more _ _ _ _ _ _ c.loop-found.invariant.grew c.in-Ok.ensures.grew;
+  grew = grew_trans _ _ _ _ _ _ c.loop-found.invariant.grew c.in-Ok.ensures.grew;
   small = small_more _ _ _ _ _ _ _ c.in-Ok.ensures.grew.grew
       (rw c.held.ensures at c.in-None.ensures.found).1 c.loop-found.invariant.small
       c.in-Ok.ensures.size;
@@ -65,7 +64,7 @@ returns-in-Err-clause-of g c =
 
 pub returns-in-Err-clause-grew : goal.returns-in-Err-clause-grew
 returns-in-Err-clause-grew g c =
-    grew_more _ _ _ _ _ _ c.loop-found.invariant.grew c.in-Err.ensures.grew
+    grew_trans _ _ _ _ _ _ c.loop-found.invariant.grew c.in-Err.ensures.grew
 
 pub returns-in-Err-clause-found : goal.returns-in-Err-clause-found
 returns-in-Err-clause-found g c = (

@@ -1,6 +1,6 @@
 use Rattle.std.proofs.Common.{[], refl, sym, ap, ◌∙◌, ◌++◌, arith}
 use Rattle.std.proofs.lemmas.List.{append-nil}
-use Rattle.format_csv_records.proofs.Alone.{closed_here, doubled_none, more_here, run_quote}
+use Rattle.format_csv_records.proofs.Alone.{closed_here, doubled_nil, more_here, run_quote}
 use Rattle.format_csv_records.proofs.Alone.{unclosed_here}
 use Rattle.format_csv_records.proofs.read.read_quoted.Goals as goal
 
@@ -8,7 +8,7 @@ pub runs-init : goal.runs-init
 runs-init g c = record {
   read = record {
     done = [];
-    whole = ap (λ l. l ++ c.args.input.now.now) (sym (doubled_none _));
+    whole = ap (λ l. l ++ c.args.input.now.now) (sym (doubled_nil _));
     all = sym (append-nil _);
   };
   same = refl;

@@ -1,15 +1,16 @@
 use Rattle.std.proofs.Common.{[], refl, sym, ap, ◌∙◌, ◌++◌}
 use Rattle.std.proofs.lemmas.List.{append-nil}
 use Rattle.std.proofs.lemmas.Result.{on_ok_weaker}
-use Rattle.format_csv_records.proofs.Alone.{doubled_none}
-use Rattle.format_csv_records.proofs.Writing.{kept_after, same_text_extends, write_end, write_more}
+use Rattle.format_csv_records.proofs.Alone.{doubled_nil}
+use Rattle.format_csv_records.proofs.Writing.{extends_after_append, extends_refl, write_end}
+use Rattle.format_csv_records.proofs.Writing.{write_more}
 use Rattle.format_csv_records.proofs.write.write_doubled.Goals as goal
 
 pub runs-init : goal.runs-init
 runs-init g c = (
   [],
   refl,
-  sym (ap (λ l. c.args.out.now.items ++ l) (doubled_none _) ∙ append-nil _),
+  sym (ap (λ l. c.args.out.now.items ++ l) (doubled_nil _) ∙ append-nil _),
 )
 
 pub returns-then-run-rest-clause-done : goal.returns-then-run-rest-clause-done
@@ -24,21 +25,21 @@ runs-preserved g c = write_more _ _ _ _ _ _ _ c.runs.invariant.1 c.runs.invarian
 
 pub returns-then-run-rest-clause-kept : goal.returns-then-run-rest-clause-kept
 returns-then-run-rest-clause-kept g c =
-    kept_after _ _ _ _ c.runs.invariant.2 (kept_after _ _ _ _
+    extends_after_append _ _ _ _ c.runs.invariant.2 (extends_after_append _ _ _ _
     c.in_ok-extend_from_slice.ensures.items c.put.ensures.kept)
 
 pub returns-in_err-extend_from_slice-clause-kept : goal.returns-in_err-extend_from_slice-clause-kept
 returns-in_err-extend_from_slice-clause-kept g c =
-    kept_after _ _ _ _ c.runs.invariant.2
-    (same_text_extends _ _ c.in_err-extend_from_slice.ensures.items)
+    extends_after_append _ _ _ _ c.runs.invariant.2
+    (extends_refl _ _ c.in_err-extend_from_slice.ensures.items)
 
 pub returns-in_err-extend_from_slice-2-clause-kept
     : goal.returns-in_err-extend_from_slice-2-clause-kept
 returns-in_err-extend_from_slice-2-clause-kept g c =
-    kept_after _ _ _ _ c.runs.invariant.2 (same_text_extends _ _
+    extends_after_append _ _ _ _ c.runs.invariant.2 (extends_refl _ _
     c.in_err-extend_from_slice-2.ensures.items)
 
 pub returns-in_err-put-clause-kept : goal.returns-in_err-put-clause-kept
 returns-in_err-put-clause-kept g c =
-    kept_after _ _ _ _ c.runs.invariant.2 (kept_after _ _ _ _
+    extends_after_append _ _ _ _ c.runs.invariant.2 (extends_after_append _ _ _ _
     c.in_ok-extend_from_slice-2.ensures.items c.in_err-put.ensures.kept)

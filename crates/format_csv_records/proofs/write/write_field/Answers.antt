@@ -1,7 +1,7 @@
 use Rattle.std.proofs.Common.{[], ◌∷◌, ◌++◌, refl, ap, inr, ◌∙◌, append_assoc}
 use Rattle.std.proofs.lemmas.Result.{on_ok_weaker}
 use Rattle.format_csv_records.specs.Dialects.{doubled}
-use Rattle.format_csv_records.proofs.Writing.{kept_added, kept_after, fewer_are_not_all}
+use Rattle.format_csv_records.proofs.Writing.{kept_added, extends_after_append, fewer_are_not_all}
 use Rattle.format_csv_records.proofs.write.write_field.Goals as goal
 
 pub returns-clause-done : goal.returns-clause-done
@@ -20,7 +20,8 @@ returns-clause-done g c =
     c.write_doubled.ensures.done
 
 pub returns-clause-kept : goal.returns-clause-kept
-returns-clause-kept g c = kept_after _ _ _ _ c.in_ok-put.ensures.done c.write_doubled.ensures.kept
+returns-clause-kept g c =
+    extends_after_append _ _ _ _ c.in_ok-put.ensures.done c.write_doubled.ensures.kept
 
 pub returns-then-plain_len-field-clause-kept : goal.returns-then-plain_len-field-clause-kept
 returns-then-plain_len-field-clause-kept g c =

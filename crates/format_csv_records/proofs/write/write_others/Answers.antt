@@ -1,11 +1,12 @@
 use Rattle.std.proofs.Common.{◌≡◌, List, ℕ, [], ◌∷◌, ◌++◌, refl, sym, ap, subst, ◌∙◌, append_assoc}
 use Rattle.std.proofs.lemmas.List.{append-nil}
-use Rattle.format_csv_records.specs.Written.{Wrote}
-use Rattle.format_csv_records.proofs.Writing.{bytes_more, kept_after, extends_in_turn, wrote_more}
+use Rattle.format_csv_records.specs.Written.{WrittenFields}
+use Rattle.format_csv_records.proofs.Writing.{bytes_more, extends_after_append, extends_trans}
+use Rattle.format_csv_records.proofs.Writing.{wrote_more}
 use Rattle.format_csv_records.proofs.write.write_others.Goals as goal
 
 pub loop-field-init : goal.loop-field-init
-unfolding Wrote
+unfolding WrittenFields
 loop-field-init g c = ([], refl, sym (append-nil _))
 
 pub loop-field-preserved : goal.loop-field-preserved
@@ -13,7 +14,7 @@ loop-field-preserved g c =
     let h = c.in_ok-write_field.ensures.done in
     let i = c.loop-field.invariant in
     let end = h.0 ++ (c.args.dialect.delimiter ∷ []) in
-    let P : List (List ℕ) → Type 0 = λ l. Wrote c.args.dialect l (i.0 ++ end) in
+    let P : List (List ℕ) → Type 0 = λ l. WrittenFields c.args.dialect l (i.0 ++ end) in
     let tidy : ((c.args.out.now.items ++ i.0) ++ h.0) ++ (c.args.dialect.delimiter ∷ [])
     ≡ c.args.out.now.items ++ (i.0 ++ end) = simp append_assoc in (
       i.0 ++ end,
@@ -24,12 +25,12 @@ loop-field-preserved g c =
 
 pub returns-in_err-write_field-clause-kept : goal.returns-in_err-write_field-clause-kept
 returns-in_err-write_field-clause-kept g c =
-    kept_after _ _ _ _ c.loop-field.invariant.2 c.in_err-write_field.ensures.kept
+    extends_after_append _ _ _ _ c.loop-field.invariant.2 c.in_err-write_field.ensures.kept
 
 pub returns-in_err-put-clause-kept : goal.returns-in_err-put-clause-kept
 returns-in_err-put-clause-kept g c =
-    kept_after _ _ _ _ c.loop-field.invariant.2
-    (extends_in_turn _ _ _ c.in_ok-write_field.ensures.kept
+    extends_after_append _ _ _ _ c.loop-field.invariant.2
+    (extends_trans _ _ _ c.in_ok-write_field.ensures.kept
     c.in_err-put.ensures.kept)
 
 pub returns-clause-kept : goal.returns-clause-kept

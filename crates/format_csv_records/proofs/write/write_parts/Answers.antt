@@ -1,6 +1,6 @@
 use Rattle.std.proofs.Common.{◌≡◌, ◌++◌, refl, ap, ◌∙◌, append_assoc}
 use Rattle.format_csv_records.specs.Written.{bytes_of}
-use Rattle.format_csv_records.proofs.Writing.{extended, kept_added, extends_in_turn, last_by}
+use Rattle.format_csv_records.proofs.Writing.{extended, kept_added, extends_trans, last_by}
 use Rattle.format_csv_records.proofs.write.write_parts.Goals as goal
 
 pub returns-clause-done : goal.returns-clause-done
@@ -27,10 +27,10 @@ returns-clause-done g c =
 
 pub returns-clause-kept : goal.returns-clause-kept
 returns-clause-kept g c =
-    extends_in_turn _ _ _ c.in_ok-write_others.ensures.kept
-    (extends_in_turn _ _ _ c.in_ok-write_last.ensures.kept
+    extends_trans _ _ _ c.in_ok-write_others.ensures.kept
+    (extends_trans _ _ _ c.in_ok-write_last.ensures.kept
     (kept_added c.extend_from_slice.result _ _ _ c.extend_from_slice.ensures.items))
 
 pub returns-in_err-write_last-clause-kept : goal.returns-in_err-write_last-clause-kept
 returns-in_err-write_last-clause-kept g c =
-    extends_in_turn _ _ _ c.in_ok-write_others.ensures.kept c.in_err-write_last.ensures.kept
+    extends_trans _ _ _ c.in_ok-write_others.ensures.kept c.in_err-write_last.ensures.kept

@@ -1,7 +1,7 @@
 use Rattle.std.proofs.Common.{refl, sym, arith, inl, inr}
 use Rattle.std.proofs.lemmas.Bool.{eqb-false, eqb-true}
 use Rattle.format_dns.proofs.DataLaws.{no_strings, strings_fail, strings_stand}
-use Rattle.format_dns.proofs.PartLaws.{at_from}
+use Rattle.format_dns.proofs.PartLaws.{suffix_from_slice}
 use Rattle.format_dns.proofs.data.strings_to_end.Goals as goal
 use Rattle.format_dns.proofs.data.strings_to_end.Goals.{
   then-is_empty-via-else-is_empty+then-not-is_empty,
@@ -13,7 +13,7 @@ returns-then-is_empty g c =
     let (enough, end, is, size) = c.in-Some.ensures.lookup.0 in
     let fails = strings_fail c.args.message.now c.args.place c.in-Some.rest.now
     c.read_strings.new.input.now c.in-Ok.strings
-    (at_from c.args.message.now c.args.place enough is) (c.in-Ok.ensures.stands refl)
+    (suffix_from_slice c.args.message.now c.args.place enough is) (c.in-Ok.ensures.stands refl)
     (elim c.then-is_empty.branch [
       | then-is_empty-via-then-is_empty w ↦ inl (omega (
         arith,
@@ -33,6 +33,6 @@ returns g c =
     let (enough, end, is, size) = c.in-Some.ensures.lookup.0 in
     strings_stand c.args.message.now c.args.place c.in-Some.rest.now
     c.read_strings.new.input.now c.in-Ok.strings
-    (at_from c.args.message.now c.args.place enough is) (c.in-Ok.ensures.stands refl)
+    (suffix_from_slice c.args.message.now c.args.place enough is) (c.in-Ok.ensures.stands refl)
     (λ none. eqb-false _ 0 (sym c.if-is_empty.ensures)
     (omega (arith, none, c.in-Ok.strings.ok.0))) (eqb-true _ 0 (sym c.if-not-is_empty.ensures))

@@ -2,7 +2,7 @@ use Rattle.std.proofs.Common.{refl, arith, inl, inr, ◌+◌}
 use Rattle.format_dns.specs.Data.{HasZone, NoZone}
 use Rattle.format_dns.proofs.DataLaws.{no_zone}
 use Rattle.format_dns.proofs.FieldLaws.{zone_length}
-use Rattle.format_dns.proofs.PartLaws.{at_length, part_err}
+use Rattle.format_dns.proofs.PartLaws.{part_err, suffix_length}
 use Rattle.format_dns.specs.declared.fault.PartError.TheVariants.{Trailing}
 use Rattle.format_dns.proofs.data.zone_to_end.Goals as goal
 
@@ -63,7 +63,7 @@ returns-then-end-message g c =
         c.in_ok-mailbox.ensures,
         inr (
           refl,
-          omega (arith, c.if-end-message.true, at_length at, zone_length fields),
+          omega (arith, c.if-end-message.true, suffix_length at, zone_length fields),
         ),
       ),
     ) in

@@ -1,4 +1,4 @@
-use Rattle.format_dns.proofs.PartLaws.{at_from}
+use Rattle.format_dns.proofs.PartLaws.{suffix_from_slice}
 use Rattle.format_dns.proofs.fields.record_fields_at.Goals as goal
 
 pub returns-in-Ok : goal.returns-in-Ok
@@ -6,6 +6,6 @@ returns-in-Ok c =
     let (enough, end, is, size) = c.in-Some.ensures.lookup.0 in (
       c.in-Some.rest.now,
       c.read_record_fields.new.input.now,
-      at_from c.args.message.now c.args.place enough is,
+      suffix_from_slice c.args.message.now c.args.place enough is,
       c.in-Ok.ensures.fields,
     )

@@ -1,6 +1,6 @@
 use Rattle.std.proofs.Common.{refl, rules, ap, sym, inr, arith, ◌≤◌, ◌∙◌, ◌++◌, ◌+◌, ◌-◌, ◌/◌}
 use Rattle.std.proofs.Common.{length}
-use Rattle.format_dns.proofs.Laws.{put_behind, told_pointer, told_root}
+use Rattle.format_dns.proofs.Laws.{pushed_is_append, told_pointer, told_root}
 use Rattle.format_dns.proofs.NameLaws.{err_further, labels_at, name_ends, name_goes_on, none_ends}
 use Rattle.format_dns.proofs.NameLaws.{none_prior, octets_at, told_err, told_fault, too_long}
 use Rattle.format_dns.proofs.NameLaws.{too_many}
@@ -116,7 +116,7 @@ returns-else-is_err g t c =
     omega (arith, at, c.in-Some-checked_sub.ensures.0) in
     let p = told_pointer place c.in_ok-read_ending.field-0 c.in-Pointer.is
     c.in_ok-read_ending.ensures in
-    let put = put_behind c.in-Ok.labels.items c.deref.result.now c.extend_from_slice.result
+    let put = pushed_is_append c.in-Ok.labels.items c.deref.result.now c.extend_from_slice.result
     c.extend_from_slice.ensures.items (sym c.is_err.ensures.value ∙ c.if-is_err.false)
     ∙ ap (λ l. c.in-Ok.labels.items ++ l) c.deref.ensures.value in (
       name_goes_on c.args.message.now a c.args.pointers c.in-Some-checked_sub-2.below

@@ -1,7 +1,7 @@
 use Rattle.std.proofs.Common.{refl, sym, inl, inr, arith, ◌∙◌, ◌∷◌, []}
 use Rattle.std.proofs.Common.{length-append}
-use Rattle.format_dns.proofs.Laws.{put_behind}
-use Rattle.format_dns.proofs.PartLaws.{lack_questions, rows_push}
+use Rattle.format_dns.proofs.Laws.{pushed_is_append}
+use Rattle.format_dns.proofs.PartLaws.{lacking_is_no_questions, rows_push}
 use Rattle.format_dns.specs.Questions.{IsQuestion, QuestionsLack}
 use Rattle.format_dns.proofs.question.questions_in.Goals as goal
 
@@ -34,7 +34,8 @@ returns-in-Err g c = elim c.in-Err.ensures [
         refl,
         inr (
           all,
-          λ questions. lack_questions c.args.message.now c.args.pointers c.args.place c.args.count
+          λ questions. lacking_is_no_questions c.args.message.now c.args.pointers c.args.place
+              c.args.count
               c.len-entry.result c.in-Err.why questions all,
         ),
       )
@@ -55,7 +56,7 @@ returns-then-is_err g c = (
 
 pub loop-alloc-preserved : goal.loop-alloc-preserved
 loop-alloc-preserved g c =
-    let put = put_behind c.loop-alloc.list.items (c.in-Ok.question ∷ []) c.push.result
+    let put = pushed_is_append c.loop-alloc.list.items (c.in-Ok.question ∷ []) c.push.result
     c.push.ensures.items (sym c.is_err.ensures.value ∙ c.if-is_err.false) in
     rw (put) (
       rows_push (λ place question. IsQuestion c.args.message.now c.args.pointers place question)

@@ -1,11 +1,11 @@
 use Rattle.std.proofs.Common.{length, ◌≤◌, ◌-◌}
-use Rattle.format_dns.specs.Questions.{IsQuestion, Rows}
+use Rattle.format_dns.specs.Questions.{ConsecutiveParts, IsQuestion}
 use Rattle.format_dns.proofs.question.questions_in.Given as goal
 
 -- the list holds the entries read so far, at most as many as requested
 abbrev pub invariant-loop-alloc : goal.invariant-loop-alloc
 invariant-loop-alloc g l =
-    Rows (λ place question. IsQuestion l.fn.message l.fn.pointers place question)
+    ConsecutiveParts (λ place question. IsQuestion l.fn.message l.fn.pointers place question)
     (λ question. question.behind) l.fn.place l.list.items l.behind
     × (length l.list.items ≤ l.fn.count)
 

@@ -1,6 +1,6 @@
 use Rattle.std.proofs.Common.{refl, subst, arith, inl, inr, ◌≡◌, ◌+◌, ℕ, List}
 use Rattle.std.specs.Prelude.{take}
-use Rattle.format_dns.specs.Data.{IsOfForm, NoForm}
+use Rattle.format_dns.specs.Data.{IsDataOfForm, NoDataOfForm}
 use Rattle.format_dns.proofs.PartLaws.{part_err}
 use Rattle.format_dns.proofs.RecordLaws.{no_record, whole_is}
 use Rattle.format_dns.specs.Records.{HasNoRecord, IsRecord}
@@ -71,9 +71,10 @@ returns-in_err-data g c =
     (elim c.in_err-data.ensures [
       | inl memory ↦ inl memory
       | inr (none, never) ↦
-          let P : List ℕ → Type 0 = λ l. NoForm l c.args.pointers (c.in_ok-name.name.behind + 10)
+          let P : List ℕ → Type 0 =
+          λ l. NoDataOfForm l c.args.pointers (c.in_ok-name.name.behind + 10)
           c.form_in-form.result c.in_err-data.field-0.0 in
-          let Q : Form → Type 0 = λ f. NoForm
+          let Q : Form → Type 0 = λ f. NoDataOfForm
           (take (c.in_ok-name.name.behind + 10 + c.in_ok-fields.fields.length)
           c.args.message.now) c.args.pointers (c.in_ok-name.name.behind + 10) f
           c.in_err-data.field-0.0 in
@@ -107,11 +108,11 @@ pub returns : goal.returns
 returns g c =
     let (tokens, rest, at, fields) = c.in_ok-fields.ensures in
     let (least, enough, is, size) = c.in-Some.ensures.lookup.0 in
-    let P : List ℕ → Type 0 = λ l. IsOfForm l c.args.pointers (c.in_ok-name.name.behind + 10)
+    let P : List ℕ → Type 0 = λ l. IsDataOfForm l c.args.pointers (c.in_ok-name.name.behind + 10)
     c.form_in-form.result c.in_ok-data.data in
     let whole = whole_is c.args.message.now (c.in_ok-name.name.behind + 10 + c.from.result)
     (c.in_ok-name.name.behind + 10 + c.from.result) is refl in
-    let Q : Form → Type 0 = λ f. IsOfForm
+    let Q : Form → Type 0 = λ f. IsDataOfForm
     (take (c.in_ok-name.name.behind + 10 + c.from.result) c.args.message.now) c.args.pointers
     (c.in_ok-name.name.behind + 10) f c.in_ok-data.data in record {
       name = c.in_ok-name.ensures;

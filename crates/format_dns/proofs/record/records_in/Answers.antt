@@ -1,8 +1,8 @@
 use Rattle.std.proofs.Common.{refl, sym, inl, inr, arith, ◌∙◌, ◌∷◌, []}
 use Rattle.std.proofs.Common.{length-append}
-use Rattle.format_dns.proofs.Laws.{put_behind}
+use Rattle.format_dns.proofs.Laws.{pushed_is_append}
 use Rattle.format_dns.proofs.PartLaws.{rows_push}
-use Rattle.format_dns.proofs.RecordLaws.{lack_records}
+use Rattle.format_dns.proofs.RecordLaws.{lacking_is_no_records}
 use Rattle.format_dns.specs.Records.{IsRecord, RecordsLack}
 use Rattle.format_dns.proofs.record.records_in.Goals as goal
 
@@ -35,7 +35,8 @@ returns-in-Err g c = elim c.in-Err.ensures [
         refl,
         inr (
           all,
-          λ records. lack_records c.args.message.now c.args.pointers c.args.place c.args.count
+          λ records. lacking_is_no_records c.args.message.now c.args.pointers c.args.place
+              c.args.count
               c.len-entry.result c.in-Err.why records all,
         ),
       )
@@ -56,7 +57,7 @@ returns-then-is_err g c = (
 
 pub loop-section-preserved : goal.loop-section-preserved
 loop-section-preserved g c =
-    let put = put_behind c.loop-section.list.items (c.in-Ok.record ∷ []) c.push.result
+    let put = pushed_is_append c.loop-section.list.items (c.in-Ok.record ∷ []) c.push.result
     c.push.ensures.items (sym c.is_err.ensures.value ∙ c.if-is_err.false) in
     rw (put) (
       rows_push (λ place it. IsRecord c.args.message.now c.args.pointers place it)

@@ -1,10 +1,10 @@
 use Rattle.std.proofs.Common.{refl}
 use Rattle.format_http_chunked.proofs.Digits.{digit_goes, digits_end, fault_large}
-use Rattle.format_http_chunked.proofs.Turns.{both_ways}
+use Rattle.format_http_chunked.proofs.Turns.{iff_trans}
 use Rattle.format_http_chunked.proofs.framing.after_digit.Goals as goal
 
 pub returns-in-Some-after_in_line-clause-ok : goal.returns-in-Some-after_in_line-clause-ok
-returns-in-Some-after_in_line-clause-ok c content trailers bytes = both_ways (digits_end _ _
+returns-in-Some-after_in_line-clause-ok c content trailers bytes = iff_trans (digits_end _ _
     (c.in-None.ensures.none refl) _ _ _) (c.in-Some-after_in_line.ensures.some content trailers
     bytes)
 

@@ -1,6 +1,6 @@
 use Rattle.std.proofs.Common.{[], ◌∷◌, arith, inl, inr}
 use Rattle.std.proofs.lemmas.Slice.Eq.{starts_is}
-use Rattle.format_ini.proofs.Passing.{byte_decides, drop_none, unlike}
+use Rattle.format_ini.proofs.Passing.{byte_decides, drop_zero, unlike}
 use Rattle.format_ini.proofs.places.mark_len.Goals as goal
 
 pub returns-then-starts_with : goal.returns-then-starts_with
@@ -14,7 +14,7 @@ returns-else-starts_with c =
     let told = starts_is byte_decides c.args.bytes.now (239 ∷ 187 ∷ 191 ∷ [])
     c.starts_with.result c.starts_with.ensures.value in (
       inr (
-        drop_none c.args.bytes.now,
+        drop_zero c.args.bytes.now,
         λ rest e. unlike c.if-starts_with.false (told.1 rest e),
       ),
       omega arith,

@@ -3,7 +3,7 @@ use Rattle.std.specs.Prelude.{Option}
 use Rattle.format_ini.specs.Places.{LineAt}
 use Rattle.format_ini.specs.declared.lines.Entry.{Entry}
 use Rattle.format_ini.proofs.Passing.{passes_line, passes_none, placed_some}
-use Rattle.format_ini.proofs.Reading.{nothing_in}
+use Rattle.format_ini.proofs.Reading.{no_entry_says_nothing}
 use Rattle.format_ini.proofs.places.next_placed.Goals as goal
 
 pub lines-init : goal.lines-init
@@ -13,7 +13,7 @@ pub lines-preserved : goal.lines-preserved
 lines-preserved c =
     let line = c.in-Ok-Some.line in
     passes_line _ _ _ _ _ c.lines.invariant _ _ (rw c.in-Ok-Some.field-0-is at
-    c.in-Ok-Some.ensures) (nothing_in _ c.in_default.not-Some)
+    c.in-Ok-Some.ensures) (no_entry_says_nothing _ c.in_default.not-Some)
 
 pub returns-in-Ok-None : goal.returns-in-Ok-None
 returns-in-Ok-None c = (c.lines.invariant, rw c.in-Ok-None.field-0-is at c.in-Ok-None.ensures)

@@ -1,5 +1,5 @@
 use Rattle.std.proofs.Common.{List, arith, drop, subst, ℕ}
-use Rattle.format_ini.specs.Lines.{Lacks, Step, said_of}
+use Rattle.format_ini.specs.Lines.{IsInvalidFor, Step, said_of}
 use Rattle.format_ini.specs.Places.{SaidAt}
 use Rattle.format_ini.proofs.places.read_at.Goals as goal
 
@@ -13,7 +13,7 @@ returns-in-Err c =
 pub returns-in-Err-read_line : goal.returns-in-Err-read_line
 returns-in-Err-read_line c =
     let (first, more, within, fits) = c.in-Some.ensures in
-    let P : List ℕ → Type 0 = λ l. Lacks c.args.dialect c.args.reading.state l
+    let P : List ℕ → Type 0 = λ l. IsInvalidFor c.args.dialect c.args.reading.state l
     c.in-Err-read_line.why in (
       omega (arith, more, within),
       (

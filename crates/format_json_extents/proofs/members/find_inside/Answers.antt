@@ -1,5 +1,5 @@
 use Rattle.std.proofs.Common.{arith, false, inl, refl}
-use Rattle.format_json_extents.proofs.Scanning.{not_by}
+use Rattle.format_json_extents.proofs.Scanning.{refuted_by_test}
 use Rattle.format_json_extents.proofs.Walks.{name_here, name_less, name_none, next_less, passes_end}
 use Rattle.format_json_extents.specs.Members.{passes_none}
 use Rattle.format_json_extents.proofs.members.find_inside.Goals as goal
@@ -19,6 +19,6 @@ members-preserved c =
 pub returns-in-None-clause-search : goal.returns-in-None-clause-search
 returns-in-None-clause-search c = (
   c.members.invariant.passes,
-  not_by c.is_end.ensures c.if-is_end.false,
+  refuted_by_test c.is_end.ensures c.if-is_end.false,
   inl (name_none c.skip_separator.ensures c.in-None.ensures),
 )

@@ -2,11 +2,11 @@ use Rattle.std.proofs.Common.{refl, rules}
 use Rattle.format_json_extents.proofs.Naming.{compared_escape, compared_nothing, compared_run}
 use Rattle.format_json_extents.proofs.Naming.{tail_compared}
 use Rattle.format_json_extents.proofs.Scalars.{tail_escape, tail_escape_none, tail_stops}
-use Rattle.format_json_extents.proofs.Scanning.{same_here}
+use Rattle.format_json_extents.proofs.Scanning.{same_matches_refl}
 use Rattle.format_json_extents.proofs.names.compare_tail.Goals as goal
 
 pub pieces-init : goal.pieces-init
-pieces-init c = record { leads = same_here; compared = compared_nothing _ _ _ }
+pieces-init c = record { leads = same_matches_refl; compared = compared_nothing _ _ _ }
 
 pub pieces-preserved : goal.pieces-preserved
 pieces-preserved c = record {

@@ -1,10 +1,12 @@
 use Rattle.std.proofs.Common.{◌-◌, ◌≡◌, None, Some, arith, rules, suc}
-use Rattle.format_json_extents.proofs.Matching.{either_left}
-use Rattle.format_json_extents.proofs.Scanning.{same_here, same_leaves, same_none, same_on}
-use Rattle.format_json_extents.proofs.Values.{element_is, element_none, empty_alone, item_is}
-use Rattle.format_json_extents.proofs.Values.{item_no_name, item_none, items_end, items_more}
-use Rattle.format_json_extents.proofs.Values.{items_none, items_stop, value_nested, value_starts}
-use Rattle.format_json_extents.specs.Texts.{NoneStands}
+use Rattle.format_json_extents.proofs.Matching.{rest_after_left}
+use Rattle.format_json_extents.proofs.Scanning.{same_matches_none, same_matches_refl}
+use Rattle.format_json_extents.proofs.Scanning.{same_matches_rest, same_matches_trans}
+use Rattle.format_json_extents.proofs.Values.{empty_alone, item_no_name, items_end, items_more}
+use Rattle.format_json_extents.proofs.Values.{items_stop, no_element, no_item_value, no_items_tail}
+use Rattle.format_json_extents.proofs.Values.{rest_after_element, rest_after_item, value_nested}
+use Rattle.format_json_extents.proofs.Values.{value_starts}
+use Rattle.format_json_extents.specs.Texts.{NoMatchAtStart}
 use Rattle.format_json_extents.specs.Value.{IsValue}
 use Rattle.format_json_extents.proofs.NodeNesting.{items_room, items_skip, last_item, more_items}
 use Rattle.format_json_extents.proofs.NodeNesting.{nested_writes, no_items, scalar_skip, tail_empty}
@@ -15,7 +17,7 @@ use Rattle.format_json_extents.proofs.nodes.+nesting.Goals as goal
 
 pub put_inside-returns-in-Some-clause-rest : goal.put_inside-returns-in-Some-clause-rest
 put_inside-returns-in-Some-clause-rest t c =
-    either_left c.in-Some.ensures
+    rest_after_left c.in-Some.ensures
     (empty_alone c.args.keyed _ (value_starts c.args.level) c.in-Some.ensures.stands)
 
 pub put_inside-returns-in-Some-clause-nodes : goal.put_inside-returns-in-Some-clause-nodes
@@ -30,30 +32,33 @@ put_inside-returns-in-None-clause-rest t c =
 
 pub put_items-items-init : goal.put_items-items-init
 put_items-items-init t c = record {
-  same = same_here;
+  same = same_matches_refl;
   wrote = no_items c.args.keyed (ValueNodes c.args.level) c.args.size c.args.index
       c.args.nodes.now;
 }
 
 pub put_items-returns-in_err-first-clause-rest : goal.put_items-returns-in_err-first-clause-rest
 put_items-returns-in_err-first-clause-rest t c =
-    let none = same_none c.items.invariant.same (items_none c.args.keyed (IsValue c.args.level)
+    let none = same_matches_none c.items.invariant.same
+    (no_items_tail c.args.keyed (IsValue c.args.level)
     (item_no_name c.args.keyed (IsValue c.args.level) c.in_err-first.ensures.rest)) in
     search rules
 
 pub put_items-returns-in_err-next-clause-rest : goal.put_items-returns-in_err-next-clause-rest
 put_items-returns-in_err-next-clause-rest t c =
-    let none = same_none c.items.invariant.same (items_none c.args.keyed (IsValue c.args.level)
-    (item_none c.args.keyed c.in_ok-first.ensures.rest
-    (element_none (value_starts c.args.level) c.skip_whitespace.ensures
+    let none = same_matches_none c.items.invariant.same
+    (no_items_tail c.args.keyed (IsValue c.args.level)
+    (no_item_value c.args.keyed c.in_ok-first.ensures.rest
+    (no_element (value_starts c.args.level) c.skip_whitespace.ensures
     c.in_err-next.ensures.rest))) in
     search rules
 
 pub put_items-returns-in-Some-clause-rest : goal.put_items-returns-in-Some-clause-rest
 put_items-returns-in-Some-clause-rest t c =
-    same_leaves c.items.invariant.same (items_end c.args.keyed (IsValue c.args.level)
-    (item_is c.args.keyed c.in_ok-first.ensures.rest
-    (element_is (value_starts c.args.level) c.skip_whitespace.ensures c.in_ok-next.ensures.rest
+    same_matches_rest c.items.invariant.same (items_end c.args.keyed (IsValue c.args.level)
+    (rest_after_item c.args.keyed c.in_ok-first.ensures.rest
+    (rest_after_element (value_starts c.args.level) c.skip_whitespace.ensures
+    c.in_ok-next.ensures.rest
     c.skip_whitespace-ahead.ensures)) c.in-Some.ensures)
 
 pub put_items-returns-in-Some-clause-nodes : goal.put_items-returns-in-Some-clause-nodes
@@ -68,9 +73,11 @@ put_items-returns-in-Some-clause-nodes t c =
 pub put_items-returns-in_err-rest-in-None-clause-rest :
     goal.put_items-returns-in_err-rest-in-None-clause-rest
 put_items-returns-in_err-rest-in-None-clause-rest t c =
-    let none = same_none c.items.invariant.same (items_stop c.args.keyed (IsValue c.args.level)
-    (item_is c.args.keyed c.in_ok-first.ensures.rest
-    (element_is (value_starts c.args.level) c.skip_whitespace.ensures c.in_ok-next.ensures.rest
+    let none = same_matches_none c.items.invariant.same
+    (items_stop c.args.keyed (IsValue c.args.level)
+    (rest_after_item c.args.keyed c.in_ok-first.ensures.rest
+    (rest_after_element (value_starts c.args.level) c.skip_whitespace.ensures
+    c.in_ok-next.ensures.rest
     c.skip_whitespace-ahead.ensures)) c.in-None.ensures c.in_err-rest-in-None.ensures) in
     search rules
 
@@ -79,9 +86,10 @@ put_items-items-preserved t c =
     let V = ValueNodes c.args.level in
     let room = items_room c.args.keyed V c.args.size c.args.index c.items.invariant.wrote in
     record {
-      same = same_on c.items.invariant.same (items_more c.args.keyed (IsValue c.args.level)
-          (item_is c.args.keyed c.in_ok-first.ensures.rest
-          (element_is (value_starts c.args.level) c.skip_whitespace.ensures
+      same = same_matches_trans c.items.invariant.same
+          (items_more c.args.keyed (IsValue c.args.level)
+          (rest_after_item c.args.keyed c.in_ok-first.ensures.rest
+          (rest_after_element (value_starts c.args.level) c.skip_whitespace.ensures
           c.in_ok-next.ensures.rest c.skip_whitespace-ahead.ensures))
           c.in_ok-rest-in-None.ensures);
       wrote = more_items c.args.keyed V c.args.size c.args.index c.items.invariant.wrote
@@ -95,7 +103,7 @@ pub put_value-returns-in_err-next-in-Some-clause-rest :
     goal.put_value-returns-in_err-next-in-Some-clause-rest
 put_value-returns-in_err-next-in-Some-clause-rest t c =
     let above : c.args.level ≡ suc (c.args.level - 1) = omega arith in
-    let none : NoneStands (IsValue c.args.level) c.args.bytes.now =
+    let none : NoMatchAtStart (IsValue c.args.level) c.args.bytes.now =
     value_nested (c.args.level - 1) c.in-Some.keyed None above c.in-Some.ensures
     c.in_err-next-in-Some.ensures.rest in
     search rules

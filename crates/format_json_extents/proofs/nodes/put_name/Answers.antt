@@ -1,7 +1,7 @@
 use Rattle.std.proofs.Common.{◌+◌, None, Some, refl, rules, subst, sym}
-use Rattle.format_json_extents.proofs.Matching.{byte_leaves, this_none}
-use Rattle.format_json_extents.proofs.Values.{key_none, key_scans}
-use Rattle.format_json_extents.specs.Texts.{Never, NoneStands, RestAfter}
+use Rattle.format_json_extents.proofs.Matching.{no_given_byte, rest_after_byte}
+use Rattle.format_json_extents.proofs.Values.{key_scans, no_key}
+use Rattle.format_json_extents.specs.Texts.{NoByte, NoMatchAtStart, RestAfter}
 use Rattle.format_json_extents.specs.Value.{IsName}
 use Rattle.format_json_extents.proofs.NodeWriting.{name_writes}
 use Rattle.format_json_extents.specs.NodeWriting.{WritesKey}
@@ -9,25 +9,25 @@ use Rattle.format_json_extents.proofs.nodes.put_name.Goals as goal
 
 pub returns-in_err-end-clause-rest : goal.returns-in_err-end-clause-rest
 returns-in_err-end-clause-rest c =
-    let none : NoneStands (IsName c.args.keyed) c.args.bytes.now =
-    subst (λ k. NoneStands (IsName k) c.args.bytes.now) (sym c.if-keyed.true)
-    (key_none c.skip_whitespace-start.ensures c.in_err-end.ensures) in
+    let none : NoMatchAtStart (IsName c.args.keyed) c.args.bytes.now =
+    subst (λ k. NoMatchAtStart (IsName k) c.args.bytes.now) (sym c.if-keyed.true)
+    (no_key c.skip_whitespace-start.ensures c.in_err-end.ensures) in
     search rules
 
 pub returns-in_err-rest-clause-rest : goal.returns-in_err-rest-clause-rest
 returns-in_err-rest-clause-rest c =
-    let none : NoneStands (IsName c.args.keyed) c.args.bytes.now =
-    subst (λ k. NoneStands (IsName k) c.args.bytes.now) (sym c.if-keyed.true)
+    let none : NoMatchAtStart (IsName c.args.keyed) c.args.bytes.now =
+    subst (λ k. NoMatchAtStart (IsName k) c.args.bytes.now) (sym c.if-keyed.true)
     (key_scans c.skip_whitespace-start.ensures None c.in_ok-end.ensures c.skip_whitespace.ensures
-    (this_none 58 c.in_err-rest.ensures)) in
+    (no_given_byte 58 c.in_err-rest.ensures)) in
     search rules
 
 pub returns-in_ok-rest-clause-rest : goal.returns-in_ok-rest-clause-rest
 returns-in_ok-rest-clause-rest c =
-    subst (λ k. RestAfter (IsName k) Never c.args.bytes.now c.in_ok-rest.rest.now)
+    subst (λ k. RestAfter (IsName k) NoByte c.args.bytes.now c.in_ok-rest.rest.now)
     (sym c.if-keyed.true)
     (key_scans c.skip_whitespace-start.ensures (Some c.in_ok-rest.rest) c.in_ok-end.ensures
-    c.skip_whitespace.ensures (byte_leaves c.in_ok-rest.ensures refl))
+    c.skip_whitespace.ensures (rest_after_byte c.in_ok-rest.ensures refl))
 
 pub returns-in_ok-rest-clause-nodes : goal.returns-in_ok-rest-clause-nodes
 returns-in_ok-rest-clause-nodes c =

@@ -1,6 +1,6 @@
 use Rattle.std.proofs.Common.{arith, rules}
-use Rattle.format_json_extents.proofs.Scanning.{none_whole}
-use Rattle.format_json_extents.proofs.Values.{element_is, element_none, value_starts}
+use Rattle.format_json_extents.proofs.Scanning.{no_match_is_not_whole}
+use Rattle.format_json_extents.proofs.Values.{no_element, rest_after_element, value_starts}
 use Rattle.format_json_extents.proofs.Written.Values.{text_standard}
 use Rattle.format_json_extents.specs.Standard.{IsTextByStandard}
 use Rattle.format_json_extents.specs.Value.{IsText}
@@ -10,20 +10,20 @@ use Rattle.format_json_extents.proofs.nodes.write_nodes.Goals as goal
 pub returns-in_err-count-clause-text : goal.returns-in_err-count-clause-text
 returns-in_err-count-clause-text c =
     let none : IsText c.args.level c.args.text.now → ⊥ =
-    none_whole (element_none (value_starts c.args.level) c.skip_whitespace-start.ensures
+    no_match_is_not_whole (no_element (value_starts c.args.level) c.skip_whitespace-start.ensures
     c.in_err-count.ensures.rest) in
     search rules
 
 pub returns-then-is_empty-clause-text : goal.returns-then-is_empty-clause-text
 returns-then-is_empty-clause-text c =
     is_whole c.is_empty.result
-    (element_is (value_starts c.args.level) c.skip_whitespace-start.ensures
+    (rest_after_element (value_starts c.args.level) c.skip_whitespace-start.ensures
     c.in_ok-count.ensures.rest c.skip_whitespace.ensures) c.is_empty.ensures c.if-is_empty.true
 
 pub returns-else-is_empty-clause-text : goal.returns-else-is_empty-clause-text
 returns-else-is_empty-clause-text c =
     not_whole c.is_empty.result
-    (element_is (value_starts c.args.level) c.skip_whitespace-start.ensures
+    (rest_after_element (value_starts c.args.level) c.skip_whitespace-start.ensures
     c.in_ok-count.ensures.rest c.skip_whitespace.ensures) c.is_empty.ensures c.if-is_empty.false
 
 pub returns-then-is_empty-clause-nodes : goal.returns-then-is_empty-clause-nodes
@@ -34,7 +34,7 @@ returns-then-is_empty-clause-nodes c =
 pub returns-in_err-count-clause-standard : goal.returns-in_err-count-clause-standard
 returns-in_err-count-clause-standard c = λ utf8.
     let none : IsTextByStandard c.args.level c.args.text.now → ⊥ = λ is.
-    none_whole (element_none (value_starts c.args.level) c.skip_whitespace-start.ensures
+    no_match_is_not_whole (no_element (value_starts c.args.level) c.skip_whitespace-start.ensures
     c.in_err-count.ensures.rest)
     ((text_standard c.args.level c.args.text.now (omega arith) utf8).1 is) in
     search rules

@@ -1,14 +1,14 @@
 use Rattle.std.proofs.Common.{rules}
-use Rattle.format_json_extents.proofs.Matching.{first_none, then_none}
+use Rattle.format_json_extents.proofs.Matching.{no_match_of_first, no_match_of_second}
 use Rattle.format_json_extents.proofs.Scalars.{minus_bars, number_is}
 use Rattle.format_json_extents.specs.Number.{IsNumber}
-use Rattle.format_json_extents.specs.Texts.{NoneStands}
+use Rattle.format_json_extents.specs.Texts.{NoMatchAtStart}
 use Rattle.format_json_extents.proofs.number.skip_number.Goals as goal
 
 pub returns-in_err-rest : goal.returns-in_err-rest
 returns-in_err-rest c =
-    let none : NoneStands IsNumber c.args.bytes.now =
-    then_none minus_bars c.skip_minus.ensures (first_none c.in_err-rest.ensures) in
+    let none : NoMatchAtStart IsNumber c.args.bytes.now =
+    no_match_of_second minus_bars c.skip_minus.ensures (no_match_of_first c.in_err-rest.ensures) in
     search rules
 
 pub returns : goal.returns

@@ -1,7 +1,7 @@
 use Rattle.format_json_extents.proofs.Pointing.{ends_here, found_child, pointer_rooted, reached}
 use Rattle.format_json_extents.proofs.Pointing.{reaches_more, stops_here, token_taken}
-use Rattle.format_json_extents.proofs.Scanning.{if_none, none_whole}
-use Rattle.format_json_extents.proofs.Values.{element_none, value_starts}
+use Rattle.format_json_extents.proofs.Scanning.{if_none_of_true, no_match_is_not_whole}
+use Rattle.format_json_extents.proofs.Values.{no_element, value_starts}
 use Rattle.format_json_extents.specs.Pointer.{reaches_root}
 use Rattle.format_json_extents.specs.Value.{IsText}
 use Rattle.format_json_extents.specs.declared.pointer.Lookup.TheVariants as lookup
@@ -16,15 +16,15 @@ tokens-init c = record {
 pub returns-in_err-rest-clause-none : goal.returns-in_err-rest-clause-none
 returns-in_err-rest-clause-none c =
     let none : IsText c.args.level c.args.text.now → ⊥ = λ is.
-    none_whole (element_none (value_starts c.args.level) c.skip_whitespace-here.ensures
+    no_match_is_not_whole (no_element (value_starts c.args.level) c.skip_whitespace-here.ensures
     c.in_err-rest.ensures) is in
-    if_none _ _ none
+    if_none_of_true _ _ none
 
 pub returns-in_err-lookup-in-Some-clause-none : goal.returns-in_err-lookup-in-Some-clause-none
 returns-in_err-lookup-in-Some-clause-none c =
     let none : IsText c.args.level c.args.text.now → ⊥ = λ is.
     c.in_err-lookup-in-Some.ensures.none _ (reached c.tokens.invariant.reaches).stands in
-    if_none _ _ none
+    if_none_of_true _ _ none
 
 pub returns-in-NoMember-clause-found : goal.returns-in-NoMember-clause-found
 returns-in-NoMember-clause-found c =

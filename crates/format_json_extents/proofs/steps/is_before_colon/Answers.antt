@@ -1,6 +1,7 @@
 use Rattle.std.proofs.Common.{refl, sym}
 use Rattle.std.proofs.lemmas.Bool.{true≢false}
-use Rattle.format_json_extents.proofs.Matching.{byte_matches, then_matches, then_none, this_none}
+use Rattle.format_json_extents.proofs.Matching.{byte_matches, no_given_byte, no_match_of_second}
+use Rattle.format_json_extents.proofs.Matching.{then_matches}
 use Rattle.format_json_extents.proofs.Values.{colon_bars}
 use Rattle.format_json_extents.proofs.steps.is_before_colon.Goals as goal
 
@@ -13,6 +14,7 @@ returns-in-Some c = (
 pub returns-in-None : goal.returns-in-None
 returns-in-None c = (
   λ yes. absurd (true≢false (sym yes)),
-  λ is. absurd (then_none colon_bars c.skip_whitespace.ensures (this_none 58 c.in-None.ensures)
+  λ is. absurd (no_match_of_second colon_bars c.skip_whitespace.ensures
+      (no_given_byte 58 c.in-None.ensures)
       is.0 is.1),
 )

@@ -1,8 +1,8 @@
-use Rattle.format_json_extents.proofs.Matching.{byte_none}
-use Rattle.format_json_extents.proofs.Scanning.{grown_scans, not_by, right_scans}
+use Rattle.format_json_extents.proofs.Matching.{no_byte_match}
+use Rattle.format_json_extents.proofs.Scanning.{grown_scans, refuted_by_test, second_scans}
 use Rattle.format_json_extents.proofs.Walks.{token_bracket}
-use Rattle.format_json_extents.specs.Number.{IsNumberByte}
-use Rattle.format_json_extents.specs.Value.{IsNumberByteOf}
+use Rattle.format_json_extents.specs.Number.{ExtendsNumber}
+use Rattle.format_json_extents.specs.Value.{ExtendsNumberOf}
 use Rattle.format_json_extents.proofs.steps.skip_token.Goals as goal
 
 pub returns-then-is_bracket : goal.returns-then-is_bracket
@@ -11,7 +11,8 @@ returns-then-is_bracket c =
 
 pub returns-else-is_bracket : goal.returns-else-is_bracket
 returns-else-is_bracket c =
-    right_scans _ _ IsNumberByte _ c.skip_scalar.result
-    (byte_none c.in_ok-first.ensures.cases.0 (not_by c.is_bracket.ensures c.if-is_bracket.false))
-    (grown_scans _ (IsNumberByteOf c.args.bytes.now) IsNumberByte _ c.skip_scalar.result
+    second_scans _ _ ExtendsNumber _ c.skip_scalar.result
+    (no_byte_match c.in_ok-first.ensures.cases.0
+    (refuted_by_test c.is_bracket.ensures c.if-is_bracket.false))
+    (grown_scans _ (ExtendsNumberOf c.args.bytes.now) ExtendsNumber _ c.skip_scalar.result
     (λ b is. is.1) c.skip_scalar.ensures)

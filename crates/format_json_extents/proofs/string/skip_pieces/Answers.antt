@@ -1,11 +1,11 @@
 use Rattle.std.proofs.Common.{rules}
 use Rattle.format_json_extents.proofs.Scalars.{escape_less, tail_ahead, tail_ends, tail_escape}
 use Rattle.format_json_extents.proofs.Scalars.{tail_escape_none, tail_stops}
-use Rattle.format_json_extents.proofs.Scanning.{same_here, same_leaves}
+use Rattle.format_json_extents.proofs.Scanning.{same_matches_refl, same_matches_rest}
 use Rattle.format_json_extents.proofs.string.skip_pieces.Goals as goal
 
 pub pieces-init : goal.pieces-init
-pieces-init c = same_here
+pieces-init c = same_matches_refl
 
 pub pieces-preserved : goal.pieces-preserved
 pieces-preserved c =
@@ -19,7 +19,7 @@ pieces-smaller c =
 
 pub returns-in-Some : goal.returns-in-Some
 returns-in-Some c =
-    same_leaves (tail_ahead c.pieces.invariant c.skip_unescaped-ahead.ensures)
+    same_matches_rest (tail_ahead c.pieces.invariant c.skip_unescaped-ahead.ensures)
     (tail_ends c.in-Some.ensures)
 
 pub returns-in_err-escape-in-None : goal.returns-in_err-escape-in-None

@@ -1,6 +1,7 @@
-use Rattle.format_json_extents.proofs.Runs.{run_after, run_ends, run_here, run_stops}
-use Rattle.format_json_extents.proofs.Scanning.{not_by}
-use Rattle.format_json_extents.specs.Value.{IsSpace}
+use Rattle.format_json_extents.proofs.Runs.{empty_run_matches, run_after, run_ends_before_other}
+use Rattle.format_json_extents.proofs.Runs.{run_ends_with_bytes}
+use Rattle.format_json_extents.proofs.Scanning.{refuted_by_test}
+use Rattle.format_json_extents.specs.Value.{IsWhitespaceByte}
 use Rattle.format_json_extents.proofs.tokens.skip_more_whitespace.Goals as goal
 
 pub returns-then-is_space : goal.returns-then-is_space
@@ -10,8 +11,8 @@ returns-then-is_space c =
 
 pub returns-else-is_space : goal.returns-else-is_space
 returns-else-is_space c =
-    run_stops (run_here IsSpace) c.in-Some.ensures.cases.0
-    (not_by c.is_space.ensures c.if-is_space.false)
+    run_ends_before_other (empty_run_matches IsWhitespaceByte) c.in-Some.ensures.cases.0
+    (refuted_by_test c.is_space.ensures c.if-is_space.false)
 
 pub returns-in-None : goal.returns-in-None
-returns-in-None c = run_ends (run_here IsSpace) c.in-None.ensures.cases
+returns-in-None c = run_ends_with_bytes (empty_run_matches IsWhitespaceByte) c.in-None.ensures.cases

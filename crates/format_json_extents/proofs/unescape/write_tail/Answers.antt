@@ -1,12 +1,12 @@
 use Rattle.std.proofs.Common.{refl, rules}
 use Rattle.format_json_extents.proofs.Scalars.{tail_escape, tail_escape_none, tail_stops}
-use Rattle.format_json_extents.proofs.Scanning.{same_here}
+use Rattle.format_json_extents.proofs.Scanning.{same_matches_refl}
 use Rattle.format_json_extents.proofs.Unescaping.{tail_written, wrote_escape, wrote_nothing}
 use Rattle.format_json_extents.proofs.Unescaping.{wrote_run}
 use Rattle.format_json_extents.proofs.unescape.write_tail.Goals as goal
 
 pub pieces-init : goal.pieces-init
-pieces-init c = record { leads = same_here; wrote = wrote_nothing }
+pieces-init c = record { leads = same_matches_refl; wrote = wrote_nothing }
 
 pub pieces-preserved : goal.pieces-preserved
 pieces-preserved c = record {

@@ -1,10 +1,10 @@
-use Rattle.format_json_extents.proofs.Scanning.{if_none}
+use Rattle.format_json_extents.proofs.Scanning.{if_none_of_true}
 use Rattle.format_json_extents.proofs.Walks.{lead_none}
 use Rattle.format_json_extents.proofs.walk.read_next.Goals as goal
 
 pub returns-in_err-value-clause-none : goal.returns-in_err-value-clause-none
 returns-in_err-value-clause-none c =
-    if_none _ c.from_residual.result
+    if_none_of_true _ c.from_residual.result
     (lead_none c.args.level c.skip_separator-left.ensures c.in_err-value.ensures.none)
 
 pub returns-clause-found : goal.returns-clause-found

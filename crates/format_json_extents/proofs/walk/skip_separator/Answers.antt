@@ -1,5 +1,5 @@
-use Rattle.format_json_extents.proofs.Matching.{byte_none, byte_starts, none_empty}
-use Rattle.format_json_extents.proofs.Scanning.{not_by}
+use Rattle.format_json_extents.proofs.Matching.{byte_starts, no_byte_match, none_empty}
+use Rattle.format_json_extents.proofs.Scanning.{refuted_by_test}
 use Rattle.format_json_extents.proofs.Walks.{lead_bare, lead_marked}
 use Rattle.format_json_extents.proofs.walk.skip_separator.Goals as goal
 
@@ -11,7 +11,7 @@ returns-then-is_mark c =
 pub returns-else-is_mark : goal.returns-else-is_mark
 returns-else-is_mark c =
     lead_bare c.skip_whitespace-ahead.ensures
-    (byte_none c.in-Some.ensures.cases.0 (not_by c.is_mark.ensures c.if-is_mark.false))
+    (no_byte_match c.in-Some.ensures.cases.0 (refuted_by_test c.is_mark.ensures c.if-is_mark.false))
 
 pub returns-in-None : goal.returns-in-None
 returns-in-None c =

@@ -1,11 +1,11 @@
 use Rattle.format_json_texts.specs.Values.{JsonText}
 use Rattle.stream_sets.specs.Accumulator.Holds.{HasCharacters}
-use Rattle.format_json_pieces.proofs.ResultsLemmas.{broken_told, fault_told, text_told}
+use Rattle.format_json_pieces.proofs.ResultsLemmas.{fault_told, invalid_utf8_is_told, text_told}
 use Rattle.format_json_pieces.proofs.value.parse_value_of_bytes.Goals as goal
 
 pub returns-in-Err-clause-text : goal.returns-in-Err-clause-text
 returns-in-Err-clause-text g c =
-    broken_told (JsonText HasCharacters c.args.level) _ _ c.refused.ensures.whole
+    invalid_utf8_is_told (JsonText HasCharacters c.args.level) _ _ c.refused.ensures.whole
     c.in-Err.ensures.cases.0
 
 pub returns-in-Ok-parse_value-clause-text : goal.returns-in-Ok-parse_value-clause-text

@@ -1,14 +1,15 @@
 use Rattle.std.proofs.Common.{refl, rules}
-use Rattle.format_json_pieces.specs.Value.{IsNext}
-use Rattle.format_json_pieces.proofs.ResultsLemmas.{fails_told, stands_told}
+use Rattle.format_json_pieces.specs.Value.{IsNextOrNone}
+use Rattle.format_json_pieces.proofs.ResultsLemmas.{failure_is_told, match_is_told}
 use Rattle.format_json_pieces.proofs.ValueLemmas.{next_ends}
 use Rattle.format_json_pieces.proofs.value.read_next_in_pieces.Goals as goal
 
 pub returns-in-Ok-clause-told : goal.returns-in-Ok-clause-told
 returns-in-Ok-clause-told g c =
-    stands_told (IsNext c.args.level) _ _ _ _ _ _ (next_ends c.args.level) c.in-Ok.ensures.value
+    match_is_told (IsNextOrNone c.args.level) _ _ _ _ _ _ (next_ends c.args.level)
+    c.in-Ok.ensures.value
     (search rules) (search rules)
 
 pub returns-in-Err-clause-told : goal.returns-in-Err-clause-told
 returns-in-Err-clause-told g c =
-    fails_told (IsNext c.args.level) _ _ _ _ _ c.in-Err.ensures.none (search rules) refl
+    failure_is_told (IsNextOrNone c.args.level) _ _ _ _ _ c.in-Err.ensures.none (search rules) refl

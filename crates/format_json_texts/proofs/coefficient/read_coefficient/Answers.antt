@@ -1,7 +1,7 @@
 use Rattle.std.proofs.Common.{◌≡◌, ◌∙◌, ◌∷◌, List, ℕ, ap, arith, length, length-append, rules, sym}
 use Rattle.format_json_texts.proofs.Coefficients.{fraction_goes, fraction_none, nothing_read}
 use Rattle.format_json_texts.proofs.Coefficients.{whole_goes, whole_too_long}
-use Rattle.format_json_texts.proofs.Going.{same_first}
+use Rattle.format_json_texts.proofs.Going.{heads_equal}
 use Rattle.format_json_texts.proofs.coefficient.read_coefficient.Goals as goal
 use Rattle.format_json_texts.proofs.coefficient.read_coefficient.Goals.{in-Some+else-first-eq46}
 use Rattle.format_json_texts.proofs.coefficient.read_coefficient.Goals.{in-None}
@@ -51,7 +51,7 @@ returns c = λ text n is joins.
       | in-Some+else-first-eq46 w ↦
           let begins : c.in_ok-whole.rest.now ≡ w.in-Some.first.now ∷ w.in-Some.digits.now =
           w.in-Some.ensures.cases.0 in
-          w.if-first-eq46.false (same_first (sym begins ∙ e))
+          w.if-first-eq46.false (heads_equal (sym begins ∙ e))
       | in-None w ↦ omega (arith, w.in-None.ensures.cases, ap (λ (l : List ℕ). length l) e)
     ] in
     fraction_none text n is _ c.in_ok-whole.whole.digits c.in_ok-whole.whole.zeros there none small

@@ -1,12 +1,12 @@
 use Rattle.std.proofs.Common.{◌-◌, inr, arith}
 use Rattle.std.proofs.lemmas.Result.{IfErr-weaker, on_ok_weaker}
-use Rattle.format_json_writer.proofs.Adding.{keeps_more, keeps_same, keeps_trans}
+use Rattle.format_json_writer.proofs.Adding.{prefix_of_equal, prefix_of_longer, prefix_trans}
 use Rattle.format_json_writer.proofs.Built.{array_put, behind_end, behind_more, joined_first}
 use Rattle.format_json_writer.proofs.Built.{joined_none, list_put}
 use Rattle.format_json_writer.proofs.Built.{member_put, number_put, object_put, text_put, word_put}
-use Rattle.format_json_writer.proofs.Refusals.{deep_array, deep_object, first_among, if_error}
-use Rattle.format_json_writer.proofs.Refusals.{later_among}
-use Rattle.format_json_writer.proofs.Refusals.{refused_items, refused_members, refused_number}
+use Rattle.format_json_writer.proofs.Refusals.{deep_array, deep_object, err_satisfies, first_among}
+use Rattle.format_json_writer.proofs.Refusals.{later_among, refused_items, refused_members}
+use Rattle.format_json_writer.proofs.Refusals.{refused_number}
 use Rattle.format_json_writer.proofs.nested.+write.Goals as goal
 
 -- ---- values with commas between them
@@ -22,8 +22,8 @@ write_items-loop-item-preserved g t c =
     let written = c.in_ok-write_nested-in-Some-2.ensures in record {
       ends = λ after more. held.ends after (behind_more c.args.layout _ c.loop-item.item-index
           c.item-item.result (omega arith) c.item-item.is put line.written written.written more);
-      kept = keeps_trans held.kept
-          (keeps_trans (keeps_more _ put) (keeps_trans line.kept written.kept));
+      kept = prefix_trans held.kept
+          (prefix_trans (prefix_of_longer _ put) (prefix_trans line.kept written.kept));
     }
 
 pub write_items-returns-after-loop-item-clause-written :
@@ -36,21 +36,21 @@ write_items-returns-after-loop-item-clause-written g t c =
 pub write_items-returns-after-loop-item-clause-kept :
     goal.write_items-returns-after-loop-item-clause-kept
 write_items-returns-after-loop-item-clause-kept g t c =
-    keeps_trans c.in_ok-write_nested-in-Some.ensures.kept c.loop-item.invariant.kept
+    prefix_trans c.in_ok-write_nested-in-Some.ensures.kept c.loop-item.invariant.kept
 
 pub write_items-returns-in_err-write_nested-in-Some-2-clause-kept :
     goal.write_items-returns-in_err-write_nested-in-Some-2-clause-kept
 write_items-returns-in_err-write_nested-in-Some-2-clause-kept g t c =
-    keeps_trans c.in_ok-write_nested-in-Some.ensures.kept
-    (keeps_trans c.loop-item.invariant.kept
-    (keeps_trans (keeps_more _ c.in_ok-push-in-Some.ensures.bytes)
-    (keeps_trans c.in_ok-put_line-in-Some.ensures.kept
+    prefix_trans c.in_ok-write_nested-in-Some.ensures.kept
+    (prefix_trans c.loop-item.invariant.kept
+    (prefix_trans (prefix_of_longer _ c.in_ok-push-in-Some.ensures.bytes)
+    (prefix_trans c.in_ok-put_line-in-Some.ensures.kept
     c.in_err-write_nested-in-Some-2.ensures.kept)))
 
 pub write_items-returns-in_err-write_nested-in-Some-clause-refused :
     goal.write_items-returns-in_err-write_nested-in-Some-clause-refused
 write_items-returns-in_err-write_nested-in-Some-clause-refused g t c =
-    if_error _ c.from_residual.result _ c.from_residual.ensures.1
+    err_satisfies _ c.from_residual.result _ c.from_residual.ensures.1
     (inr (
       _,
       first_among _ c.in-Some.ensures.cases.0,
@@ -60,7 +60,7 @@ write_items-returns-in_err-write_nested-in-Some-clause-refused g t c =
 pub write_items-returns-in_err-write_nested-in-Some-2-clause-refused :
     goal.write_items-returns-in_err-write_nested-in-Some-2-clause-refused
 write_items-returns-in_err-write_nested-in-Some-2-clause-refused g t c =
-    if_error _ c.from_residual-in_err-write_nested-in-Some-2.result _
+    err_satisfies _ c.from_residual-in_err-write_nested-in-Some-2.result _
     c.from_residual-in_err-write_nested-in-Some-2.ensures.1
     (inr (
       c.item-item.result,
@@ -79,19 +79,19 @@ write_array-returns-then-level-eq0-clause-refused g t c =
 pub write_array-returns-in_err-write_items-clause-refused :
     goal.write_array-returns-in_err-write_items-clause-refused
 write_array-returns-in_err-write_items-clause-refused g t c =
-    if_error _ c.from_residual-in_err-write_items.result _
+    err_satisfies _ c.from_residual-in_err-write_items.result _
     c.from_residual-in_err-write_items.ensures.1
     (refused_items (c.args.level - 1) c.args.items.now _ c.as_slice-list.ensures.value (omega arith)
     c.in_err-write_items.ensures.refused)
 
 pub write_array-returns-in_err-push-clause-kept : goal.write_array-returns-in_err-push-clause-kept
-write_array-returns-in_err-push-clause-kept g t c = keeps_same c.in_err-push.ensures.bytes
+write_array-returns-in_err-push-clause-kept g t c = prefix_of_equal c.in_err-push.ensures.bytes
 
 pub write_array-returns-in_err-write_items-clause-kept :
     goal.write_array-returns-in_err-write_items-clause-kept
 write_array-returns-in_err-write_items-clause-kept g t c =
-    keeps_trans (keeps_more _ c.in_ok-push.ensures.bytes)
-    (keeps_trans c.in_ok-put_line_in.ensures.kept c.in_err-write_items.ensures.kept)
+    prefix_trans (prefix_of_longer _ c.in_ok-push.ensures.bytes)
+    (prefix_trans c.in_ok-put_line_in.ensures.kept c.in_err-write_items.ensures.kept)
 
 pub write_array-returns-clause-written : goal.write_array-returns-clause-written
 write_array-returns-clause-written g t c =
@@ -126,8 +126,8 @@ write_members-loop-member-preserved g t c =
       ends = λ after more. held.ends after (behind_more c.args.layout _ c.loop-member.member-index
           c.member-item.result (omega arith) c.member-item.is put line.written written.written
           more);
-      kept = keeps_trans held.kept
-          (keeps_trans (keeps_more _ put) (keeps_trans line.kept written.kept));
+      kept = prefix_trans held.kept
+          (prefix_trans (prefix_of_longer _ put) (prefix_trans line.kept written.kept));
     }
 
 pub write_members-returns-after-loop-member-clause-written :
@@ -140,21 +140,21 @@ write_members-returns-after-loop-member-clause-written g t c =
 pub write_members-returns-after-loop-member-clause-kept :
     goal.write_members-returns-after-loop-member-clause-kept
 write_members-returns-after-loop-member-clause-kept g t c =
-    keeps_trans c.in_ok-write_member-in-Some.ensures.kept c.loop-member.invariant.kept
+    prefix_trans c.in_ok-write_member-in-Some.ensures.kept c.loop-member.invariant.kept
 
 pub write_members-returns-in_err-write_member-in-Some-2-clause-kept :
     goal.write_members-returns-in_err-write_member-in-Some-2-clause-kept
 write_members-returns-in_err-write_member-in-Some-2-clause-kept g t c =
-    keeps_trans c.in_ok-write_member-in-Some.ensures.kept
-    (keeps_trans c.loop-member.invariant.kept
-    (keeps_trans (keeps_more _ c.in_ok-push-in-Some.ensures.bytes)
-    (keeps_trans c.in_ok-put_line-in-Some.ensures.kept
+    prefix_trans c.in_ok-write_member-in-Some.ensures.kept
+    (prefix_trans c.loop-member.invariant.kept
+    (prefix_trans (prefix_of_longer _ c.in_ok-push-in-Some.ensures.bytes)
+    (prefix_trans c.in_ok-put_line-in-Some.ensures.kept
     c.in_err-write_member-in-Some-2.ensures.kept)))
 
 pub write_members-returns-in_err-write_member-in-Some-clause-refused :
     goal.write_members-returns-in_err-write_member-in-Some-clause-refused
 write_members-returns-in_err-write_member-in-Some-clause-refused g t c =
-    if_error _ c.from_residual.result _ c.from_residual.ensures.1
+    err_satisfies _ c.from_residual.result _ c.from_residual.ensures.1
     (inr (
       _,
       first_among _ c.in-Some.ensures.cases.0,
@@ -164,7 +164,7 @@ write_members-returns-in_err-write_member-in-Some-clause-refused g t c =
 pub write_members-returns-in_err-write_member-in-Some-2-clause-refused :
     goal.write_members-returns-in_err-write_member-in-Some-2-clause-refused
 write_members-returns-in_err-write_member-in-Some-2-clause-refused g t c =
-    if_error _ c.from_residual-in_err-write_member-in-Some-2.result _
+    err_satisfies _ c.from_residual-in_err-write_member-in-Some-2.result _
     c.from_residual-in_err-write_member-in-Some-2.ensures.1
     (inr (
       c.member-item.result,
@@ -183,19 +183,19 @@ write_object-returns-then-level-eq0-clause-refused g t c =
 pub write_object-returns-in_err-write_members-clause-refused :
     goal.write_object-returns-in_err-write_members-clause-refused
 write_object-returns-in_err-write_members-clause-refused g t c =
-    if_error _ c.from_residual-in_err-write_members.result _
+    err_satisfies _ c.from_residual-in_err-write_members.result _
     c.from_residual-in_err-write_members.ensures.1
     (refused_members (c.args.level - 1) c.args.members.now _ c.as_slice-list.ensures.value
     (omega arith) c.in_err-write_members.ensures.refused)
 
 pub write_object-returns-in_err-push-clause-kept : goal.write_object-returns-in_err-push-clause-kept
-write_object-returns-in_err-push-clause-kept g t c = keeps_same c.in_err-push.ensures.bytes
+write_object-returns-in_err-push-clause-kept g t c = prefix_of_equal c.in_err-push.ensures.bytes
 
 pub write_object-returns-in_err-write_members-clause-kept :
     goal.write_object-returns-in_err-write_members-clause-kept
 write_object-returns-in_err-write_members-clause-kept g t c =
-    keeps_trans (keeps_more _ c.in_ok-push.ensures.bytes)
-    (keeps_trans c.in_ok-put_line_in.ensures.kept c.in_err-write_members.ensures.kept)
+    prefix_trans (prefix_of_longer _ c.in_ok-push.ensures.bytes)
+    (prefix_trans c.in_ok-put_line_in.ensures.kept c.in_err-write_members.ensures.kept)
 
 pub write_object-returns-clause-written : goal.write_object-returns-clause-written
 write_object-returns-clause-written g t c =
@@ -244,30 +244,30 @@ write_nested-returns-in_ok-write_string-in-Text-clause-written g t c =
 pub write_items-returns-in_err-put_line-in-Some-clause-kept :
     goal.write_items-returns-in_err-put_line-in-Some-clause-kept
 write_items-returns-in_err-put_line-in-Some-clause-kept g t c =
-    keeps_trans c.in_ok-write_nested-in-Some.ensures.kept
-    (keeps_trans c.loop-item.invariant.kept
-    (keeps_trans (keeps_more _ c.in_ok-push-in-Some.ensures.bytes)
+    prefix_trans c.in_ok-write_nested-in-Some.ensures.kept
+    (prefix_trans c.loop-item.invariant.kept
+    (prefix_trans (prefix_of_longer _ c.in_ok-push-in-Some.ensures.bytes)
     c.in_err-put_line-in-Some.ensures.kept))
 
 pub write_members-returns-in_err-put_line-in-Some-clause-kept :
     goal.write_members-returns-in_err-put_line-in-Some-clause-kept
 write_members-returns-in_err-put_line-in-Some-clause-kept g t c =
-    keeps_trans c.in_ok-write_member-in-Some.ensures.kept
-    (keeps_trans c.loop-member.invariant.kept
-    (keeps_trans (keeps_more _ c.in_ok-push-in-Some.ensures.bytes)
+    prefix_trans c.in_ok-write_member-in-Some.ensures.kept
+    (prefix_trans c.loop-member.invariant.kept
+    (prefix_trans (prefix_of_longer _ c.in_ok-push-in-Some.ensures.bytes)
     c.in_err-put_line-in-Some.ensures.kept))
 
 pub write_array-returns-in_err-put_line_in-2-clause-kept :
     goal.write_array-returns-in_err-put_line_in-2-clause-kept
 write_array-returns-in_err-put_line_in-2-clause-kept g t c =
-    keeps_trans (keeps_more _ c.in_ok-push.ensures.bytes)
-    (keeps_trans c.in_ok-put_line_in.ensures.kept
-    (keeps_trans c.in_ok-write_items.ensures.kept c.in_err-put_line_in-2.ensures.kept))
+    prefix_trans (prefix_of_longer _ c.in_ok-push.ensures.bytes)
+    (prefix_trans c.in_ok-put_line_in.ensures.kept
+    (prefix_trans c.in_ok-write_items.ensures.kept c.in_err-put_line_in-2.ensures.kept))
 
 pub write_array-returns-clause-kept : goal.write_array-returns-clause-kept
 write_array-returns-clause-kept g t c =
-    keeps_trans (keeps_more _ c.in_ok-push.ensures.bytes)
-    (keeps_trans c.in_ok-put_line_in.ensures.kept
-    (keeps_trans c.in_ok-write_items.ensures.kept
-    (keeps_trans c.in_ok-put_line_in-2.ensures.kept
-    (keeps_more _ c.in_ok-push-2.ensures.bytes))))
+    prefix_trans (prefix_of_longer _ c.in_ok-push.ensures.bytes)
+    (prefix_trans c.in_ok-put_line_in.ensures.kept
+    (prefix_trans c.in_ok-write_items.ensures.kept
+    (prefix_trans c.in_ok-put_line_in-2.ensures.kept
+    (prefix_of_longer _ c.in_ok-push-2.ensures.bytes))))

@@ -1,5 +1,5 @@
 use Rattle.std.proofs.Common.{◌+◌, ◌*◌, ℕ, List, drop, string_bytes}
-use Rattle.format_json_writer.specs.Added.{Adds, Keeps}
+use Rattle.format_json_writer.specs.Added.{Appends, IsPrefixOf}
 use Rattle.format_json_writer.proofs.Built.{CommaPrefixed}
 use Rattle.format_json_writer.specs.Layout.{LaidMember, LaidValue}
 use Rattle.format_json_writer.proofs.nested.+write.Given as goal
@@ -27,20 +27,20 @@ decreases-write_object g l = 4 * l.level + 2
 abbrev pub invariant-write_items-loop-item : goal.invariant-write_items-loop-item
 invariant-write_items-loop-item g l = record {
   ends : (after : List ℕ)
-      → Adds (CommaPrefixed l.layout (LaidValue l.layout l.level)) (drop l.item-index l.rest)
+      → Appends (CommaPrefixed l.layout (LaidValue l.layout l.level)) (drop l.item-index l.rest)
       (string_bytes l.into) after
-      → Adds (CommaPrefixed l.layout (LaidValue l.layout l.level)) l.rest
+      → Appends (CommaPrefixed l.layout (LaidValue l.layout l.level)) l.rest
       (string_bytes l.initial.into) after;
-  kept : Keeps (string_bytes l.initial.into) (string_bytes l.into);
+  kept : IsPrefixOf (string_bytes l.initial.into) (string_bytes l.into);
 }
 
 -- and so with members
 abbrev pub invariant-write_members-loop-member : goal.invariant-write_members-loop-member
 invariant-write_members-loop-member g l = record {
   ends : (after : List ℕ)
-      → Adds (CommaPrefixed l.layout (LaidMember l.layout (LaidValue l.layout l.level)))
+      → Appends (CommaPrefixed l.layout (LaidMember l.layout (LaidValue l.layout l.level)))
       (drop l.member-index l.rest) (string_bytes l.into) after
-      → Adds (CommaPrefixed l.layout (LaidMember l.layout (LaidValue l.layout l.level))) l.rest
+      → Appends (CommaPrefixed l.layout (LaidMember l.layout (LaidValue l.layout l.level))) l.rest
       (string_bytes l.initial.into) after;
-  kept : Keeps (string_bytes l.initial.into) (string_bytes l.into);
+  kept : IsPrefixOf (string_bytes l.initial.into) (string_bytes l.into);
 }

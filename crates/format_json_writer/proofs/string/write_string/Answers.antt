@@ -1,6 +1,6 @@
 use Rattle.std.proofs.lemmas.Result.{on_ok_weaker}
 use Rattle.std.proofs.lemmas.Str.{IsUtf8-past_char}
-use Rattle.format_json_writer.proofs.Adding.{keeps_trans}
+use Rattle.format_json_writer.proofs.Adding.{prefix_trans}
 use Rattle.format_json_writer.proofs.Pushed.{none_left, one_more, string_added, string_pushed}
 use Rattle.format_json_writer.proofs.Pushed.{where_ok}
 use Rattle.format_json_writer.proofs.string.write_string.Goals as goal
@@ -12,7 +12,7 @@ loop-c-preserved g c =
       utf8 = IsUtf8-past_char _ _ c.in-Some.c held.utf8 parts;
       ends = λ after more. held.ends after
           (one_more _ _ c.in-Some.c held.utf8 parts c.in_ok-write_character.ensures.written more);
-      kept = keeps_trans held.kept c.write_character.ensures.kept;
+      kept = prefix_trans held.kept c.write_character.ensures.kept;
     }
 
 pub returns-clause-written : goal.returns-clause-written

@@ -1,7 +1,7 @@
 use Rattle.std.proofs.Common.{sym, ◌∙◌}
 use Rattle.streams.specs.Equal.{true_is_false}
 use Rattle.format_json_writer.proofs.Back.{read_alike, read_wants}
-use Rattle.format_json_writer.proofs.Refusals.{if_error}
+use Rattle.format_json_writer.proofs.Refusals.{err_satisfies}
 use Rattle.format_json_writer.proofs.value.reads_back.Goals as goal
 
 pub returns-clause-alike : goal.returns-clause-alike
@@ -17,4 +17,4 @@ unreachable-requires g c =
 
 pub returns-in_err-text-clause-refused : goal.returns-in_err-text-clause-refused
 returns-in_err-text-clause-refused g c =
-    if_error _ c.from_residual.result _ c.from_residual.ensures.1 c.in_err-text.ensures.refused
+    err_satisfies _ c.from_residual.result _ c.from_residual.ensures.1 c.in_err-text.ensures.refused

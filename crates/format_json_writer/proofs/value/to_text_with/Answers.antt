@@ -1,5 +1,5 @@
 use Rattle.format_json_writer.proofs.Built.{added_alone}
-use Rattle.format_json_writer.proofs.Refusals.{if_error}
+use Rattle.format_json_writer.proofs.Refusals.{err_satisfies}
 use Rattle.format_json_writer.proofs.value.to_text_with.Goals as goal
 
 pub returns-clause-written : goal.returns-clause-written
@@ -15,10 +15,10 @@ returns-clause-text g c =
 pub returns-in_err-write_value_with-clause-refused :
     goal.returns-in_err-write_value_with-clause-refused
 returns-in_err-write_value_with-clause-refused g c =
-    if_error _ c.from_residual.result _ c.from_residual.ensures.1
+    err_satisfies _ c.from_residual.result _ c.from_residual.ensures.1
     c.in_err-write_value_with.ensures.refused
 
 pub returns-in_err-write_value_with-clause-none : goal.returns-in_err-write_value_with-clause-none
 returns-in_err-write_value_with-clause-none g c =
-    if_error _ c.from_residual.result _ c.from_residual.ensures.1
+    err_satisfies _ c.from_residual.result _ c.from_residual.ensures.1
     c.in_err-write_value_with.ensures.none

@@ -1,6 +1,6 @@
 use Rattle.std.proofs.lemmas.Result.{IfOk-weaker}
 use Rattle.format_resp.proofs.ReadBack.{command_back, command_first}
-use Rattle.format_resp.proofs.Writing.{if_error}
+use Rattle.format_resp.proofs.Writing.{err_satisfies}
 use Rattle.format_resp.proofs.WrittenTexts.{few}
 use Rattle.format_resp.specs.declared.reply.Reply as made
 use Rattle.format_resp.proofs.back.command_reads_back.Goals as goal
@@ -15,7 +15,7 @@ read_whole-requires g c =
 pub returns-in_err-write_command-clause-refused :
     goal.returns-in_err-write_command-clause-refused
 returns-in_err-write_command-clause-refused g c =
-    if_error _ c.from_residual.result _ c.from_residual.ensures.1
+    err_satisfies _ c.from_residual.result _ c.from_residual.ensures.1
     c.in_err-write_command.ensures.refused
 
 pub returns-clause-same : goal.returns-clause-same

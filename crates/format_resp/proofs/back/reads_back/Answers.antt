@@ -1,5 +1,5 @@
 use Rattle.std.proofs.lemmas.Result.{IfOk-weaker}
-use Rattle.format_resp.proofs.Writing.{if_error}
+use Rattle.format_resp.proofs.Writing.{err_satisfies}
 use Rattle.format_resp.proofs.ReadBack.{one_reply, put_first}
 use Rattle.format_resp.specs.Resp.{ReplyText}
 use Rattle.format_resp.proofs.back.reads_back.Goals as goal
@@ -17,7 +17,7 @@ read_whole-requires g c = record {
 
 pub returns-in_err-write_reply-clause-refused : goal.returns-in_err-write_reply-clause-refused
 returns-in_err-write_reply-clause-refused g c =
-    if_error _ c.from_residual.result _ c.from_residual.ensures.1
+    err_satisfies _ c.from_residual.result _ c.from_residual.ensures.1
     c.in_err-write_reply.ensures.refused
 
 pub returns-clause-alike : goal.returns-clause-alike

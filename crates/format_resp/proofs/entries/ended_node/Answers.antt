@@ -4,7 +4,7 @@ use Rattle.std.proofs.lemmas.List.{nil_from_length}
 use Rattle.format_resp.proofs.FirstLines.{line_at}
 use Rattle.format_resp.proofs.NodeTexts.{ended_line, line_found, mark_found, no_bytes, no_mark}
 use Rattle.format_resp.proofs.NodeTexts.{array_kind, bulk_kind, ended_null}
-use Rattle.format_resp.specs.Resp.{Any, LineSays, Replies}
+use Rattle.format_resp.specs.Resp.{Any, LineContents, Replies}
 use Rattle.format_resp.specs.Writing.{IsLineNode}
 use Rattle.format_resp.specs.declared.heads.Head.TheVariants as heads
 use Rattle.format_resp.specs.declared.marks.Mark.TheVariants.{Aggregate, Data, Line}
@@ -32,7 +32,7 @@ returns-in-Some-Line c protocol found =
     let at = line_at protocol bytes left found in
     let is = mark_found protocol heads.Ends bytes left (Line mark) byte text split
     (rw c.in-Some-Line.field-0-is at c.in-Some-Line.ensures.some) at in
-    let P : List ℕ → Type 0 = λ l. (reply : Replies ⊤) → LineSays Any mark reply l
+    let P : List ℕ → Type 0 = λ l. (reply : Replies ⊤) → LineContents Any mark reply l
     → IsLineNode mark l (c.args.size - length text) c.args.index c.line_node.result in
     ended_line protocol c.args.size c.args.index bytes left c.line_node.result mark
     (c.args.size - length text) (omega (arith, ap (λ l. length l) split, c.requires))

@@ -1,6 +1,6 @@
 use Rattle.std.proofs.Common.{◌∙◌, refl, subst, sym}
-use Rattle.format_resp.proofs.FirstBytes.{one_mark}
-use Rattle.format_resp.specs.Resp.{IsIn}
+use Rattle.format_resp.proofs.FirstBytes.{byte_of_injective}
+use Rattle.format_resp.specs.Resp.{IsInProtocol}
 use Rattle.format_resp.proofs.marks.mark_of.Goals as goal
 
 pub returns-in_err-mark-clause-none : goal.returns-in_err-mark-clause-none
@@ -8,5 +8,5 @@ returns-in_err-mark-clause-none c e mark within is = c.in_err-mark.ensures.none 
 
 pub returns-else-is_in-clause-none : goal.returns-else-is_in-clause-none
 returns-else-is_in-clause-none c e mark within is =
-    c.if-is_in.ensures (subst (λ m. IsIn c.args.protocol m)
-    (one_mark mark c.in_ok-mark.mark (sym is ∙ c.in_ok-mark.ensures.some)) within)
+    c.if-is_in.ensures (subst (λ m. IsInProtocol c.args.protocol m)
+    (byte_of_injective mark c.in_ok-mark.mark (sym is ∙ c.in_ok-mark.ensures.some)) within)

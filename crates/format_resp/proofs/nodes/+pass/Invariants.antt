@@ -1,7 +1,7 @@
 -- Loop invariant: so many replies are passed, and their nodes are written.
 use Rattle.std.proofs.Common.{◌*◌, ◌+◌}
 use Rattle.format_resp.specs.Bounded.{AreAfter}
-use Rattle.format_resp.specs.Writing.{RowNodes, Writes}
+use Rattle.format_resp.specs.Writing.{RowNodes, WritesNodes}
 use Rattle.format_resp.proofs.nodes.+pass.Given as goal
 
 -- a reply calls its elements at a smaller depth, and these call replies at their depth
@@ -17,6 +17,6 @@ decreases-pass_aggregate l = 3 * l.level
 abbrev pub invariant-pass_replies-loop : goal.invariant-pass_replies-loop
 invariant-pass_replies-loop l = record {
   passed : AreAfter l.protocol l.level l.counter l.bytes l.rest;
-  wrote : Writes (RowNodes l.protocol l.level l.counter) l.size l.initial.index l.bytes l.rest
+  wrote : WritesNodes (RowNodes l.protocol l.level l.counter) l.size l.initial.index l.bytes l.rest
       l.index l.initial.nodes l.nodes;
 }

@@ -5,17 +5,17 @@ use Rattle.std.proofs.Common.{◌-◌, ◌∙◌, arith, inl, inr, refl, rules, 
 use Rattle.grammars.specs.Texts.{EachText}
 use Rattle.std.proofs.lemmas.Result.{IfErr-weaker, on_ok_weaker}
 use Rattle.format_resp.proofs.Encodings.{shown_is}
-use Rattle.format_resp.proofs.Made.{shaped}
+use Rattle.format_resp.proofs.Made.{shape_of_equal}
 use Rattle.format_resp.proofs.OnlyTexts.{written_only}
 use Rattle.format_resp.proofs.Rooms.{aggregate_full, full_err, lacks_behind, lacks_first}
 use Rattle.format_resp.proofs.Rooms.{row_behind, row_first, text_err, valid_full}
 use Rattle.format_resp.proofs.Writing.{adds, aggregate_put, among, as_error, deep_aggregate}
-use Rattle.format_resp.proofs.Writing.{if_error, keeps_trans, or_itself, refused_count}
+use Rattle.format_resp.proofs.Writing.{err_satisfies, or_itself, prefix_trans, refused_count}
 use Rattle.format_resp.proofs.Writing.{refused_foreign, refused_within, row_end, row_more}
 use Rattle.format_resp.proofs.Writing.{valid_put}
 use Rattle.format_resp.proofs.WrittenTexts.{data_text, integer_text, line_text, null_text}
 use Rattle.format_resp.specs.Numbers.{IsBigNumber, IsDouble}
-use Rattle.format_resp.specs.Resp.{InLine, WrittenText, gathered}
+use Rattle.format_resp.specs.Resp.{IsLineByte, WrittenText, gathered}
 use Rattle.format_resp.specs.Written.{IsBroken, marked}
 use Rattle.format_resp.specs.declared.marks.DataMark.TheVariants.{Dollar, Equals, Exclamation}
 use Rattle.format_resp.specs.declared.marks.LineMark.TheVariants.{Comma, Hash, Minus, Parenthesis}
@@ -39,7 +39,7 @@ write_elements-loop-reply-preserved g t c =
     let written = c.in_ok-write_nested.ensures in record {
       ends = λ after more. held.ends after (row_more _ c.loop-reply.reply-index
           c.reply-item.result (omega arith) c.reply-item.is written.written more);
-      kept = keeps_trans held.kept written.kept;
+      kept = prefix_trans held.kept written.kept;
       room = omega (arith, held.room, written.capacity);
       lacks = λ more. held.lacks (row_behind (WrittenText c.args.protocol c.args.level)
           c.args.replies.now c.loop-reply.reply-index c.reply-item.result (omega arith)
@@ -54,7 +54,7 @@ write_elements-returns-clause-written g t c =
 pub write_elements-returns-in_err-write_nested-clause-refused :
     goal.write_elements-returns-in_err-write_nested-clause-refused
 write_elements-returns-in_err-write_nested-clause-refused g t c =
-    if_error _ c.from_residual.result _ c.from_residual.ensures.1
+    err_satisfies _ c.from_residual.result _ c.from_residual.ensures.1
     (inr (
       c.reply-item.result,
       among _ c.loop-reply.reply-index c.reply-item.result (omega arith) c.reply-item.is,
@@ -64,7 +64,7 @@ write_elements-returns-in_err-write_nested-clause-refused g t c =
 pub write_elements-returns-in_err-write_nested-clause-kept :
     goal.write_elements-returns-in_err-write_nested-clause-kept
 write_elements-returns-in_err-write_nested-clause-kept g t c =
-    keeps_trans c.loop-reply.invariant.kept c.in_err-write_nested.ensures.kept
+    prefix_trans c.loop-reply.invariant.kept c.in_err-write_nested.ensures.kept
 
 pub write_elements-returns-in_err-write_nested-clause-capacity :
     goal.write_elements-returns-in_err-write_nested-clause-capacity
@@ -77,7 +77,7 @@ write_elements-returns-clause-capacity g t c = c.loop-reply.invariant.room
 pub write_elements-returns-in_err-write_nested-clause-full :
     goal.write_elements-returns-in_err-write_nested-clause-full
 write_elements-returns-in_err-write_nested-clause-full g t c =
-    if_error _ c.from_residual.result _ c.from_residual.ensures.1
+    err_satisfies _ c.from_residual.result _ c.from_residual.ensures.1
     (λ is. c.loop-reply.invariant.lacks (row_first (WrittenText c.args.protocol c.args.level)
     c.args.replies.now c.loop-reply.reply-index c.reply-item.result (omega arith)
     c.reply-item.is c.loop-reply.into (c.in_err-write_nested.ensures.full is)))
@@ -139,7 +139,7 @@ write_list-returns-in_ok-write_size-in-Some-clause-refused g t c =
 pub write_list-returns-in_ok-write_size-in-Some-clause-kept :
     goal.write_list-returns-in_ok-write_size-in-Some-clause-kept
 write_list-returns-in_ok-write_size-in-Some-clause-kept g t c =
-    keeps_trans c.in_ok-write_size-in-Some.ensures.kept c.write_elements.ensures.kept
+    prefix_trans c.in_ok-write_size-in-Some.ensures.kept c.write_elements.ensures.kept
 
 -- ---- replies
 
@@ -152,28 +152,34 @@ pub write_nested-returns-in-Simple-clause-written :
     goal.write_nested-returns-in-Simple-clause-written
 write_nested-returns-in-Simple-clause-written g t c =
     valid_put c.args.protocol c.args.level _ _ _ _ c.if-is_foreign.ensures
-    (λ valid. line_text c.args.protocol c.args.level _ Plus _
-    (_, shaped _ c.in-Simple.is (rolls-Simple _), shown_is (AllByRecursion InLine) _ valid))
+    (λ valid. line_text c.args.protocol c.args.level _ Plus _ (
+      _,
+      shape_of_equal _ c.in-Simple.is (rolls-Simple _),
+      shown_is (AllByRecursion IsLineByte) _ valid,
+    ))
     c.write_text.result c.write_text.ensures.written
 
 pub write_nested-returns-in-Simple-clause-refused :
     goal.write_nested-returns-in-Simple-clause-refused
 write_nested-returns-in-Simple-clause-refused g t c =
     as_error c.args.protocol c.args.level _ LineBreak
-    (λ not. or_itself IsBroken _ (inl (_, shaped _ c.in-Simple.is (rolls-Simple _), not)))
+    (λ not. or_itself IsBroken _ (inl (_, shape_of_equal _ c.in-Simple.is (rolls-Simple _), not)))
     c.write_text.result c.write_text.ensures.refused
 
 pub write_nested-returns-in-Error-clause-written : goal.write_nested-returns-in-Error-clause-written
 write_nested-returns-in-Error-clause-written g t c =
     valid_put c.args.protocol c.args.level _ _ _ _ c.if-is_foreign.ensures
-    (λ valid. line_text c.args.protocol c.args.level _ Minus _
-    (_, shaped _ c.in-Error.is (rolls-Error _), shown_is (AllByRecursion InLine) _ valid))
+    (λ valid. line_text c.args.protocol c.args.level _ Minus _ (
+      _,
+      shape_of_equal _ c.in-Error.is (rolls-Error _),
+      shown_is (AllByRecursion IsLineByte) _ valid,
+    ))
     c.write_text-in-Error.result c.write_text-in-Error.ensures.written
 
 pub write_nested-returns-in-Error-clause-refused : goal.write_nested-returns-in-Error-clause-refused
 write_nested-returns-in-Error-clause-refused g t c =
     as_error c.args.protocol c.args.level _ LineBreak
-    (λ not. or_itself IsBroken _ (inr (_, shaped _ c.in-Error.is (rolls-Error _), not)))
+    (λ not. or_itself IsBroken _ (inr (_, shape_of_equal _ c.in-Error.is (rolls-Error _), not)))
     c.write_text-in-Error.result c.write_text-in-Error.ensures.refused
 
 pub write_nested-returns-in-Double-clause-written :
@@ -181,14 +187,14 @@ pub write_nested-returns-in-Double-clause-written :
 write_nested-returns-in-Double-clause-written g t c =
     valid_put c.args.protocol c.args.level _ _ _ _ c.if-is_foreign.ensures
     (λ valid. line_text c.args.protocol c.args.level _ Comma _
-    (_, shaped _ c.in-Double.is (rolls-Double _), shown_is IsDouble _ valid))
+    (_, shape_of_equal _ c.in-Double.is (rolls-Double _), shown_is IsDouble _ valid))
     c.write_double.result c.write_double.ensures.written
 
 pub write_nested-returns-in-Double-clause-refused :
     goal.write_nested-returns-in-Double-clause-refused
 write_nested-returns-in-Double-clause-refused g t c =
     as_error c.args.protocol c.args.level _ Double
-    (λ not. or_itself _ _ (_, shaped _ c.in-Double.is (rolls-Double _), not))
+    (λ not. or_itself _ _ (_, shape_of_equal _ c.in-Double.is (rolls-Double _), not))
     c.write_double.result c.write_double.ensures.refused
 
 pub write_nested-returns-in-BigNumber-clause-written :
@@ -196,14 +202,14 @@ pub write_nested-returns-in-BigNumber-clause-written :
 write_nested-returns-in-BigNumber-clause-written g t c =
     valid_put c.args.protocol c.args.level _ _ _ _ c.if-is_foreign.ensures
     (λ valid. line_text c.args.protocol c.args.level _ Parenthesis _
-    (_, shaped _ c.in-BigNumber.is (rolls-BigNumber _), shown_is IsBigNumber _ valid))
+    (_, shape_of_equal _ c.in-BigNumber.is (rolls-BigNumber _), shown_is IsBigNumber _ valid))
     c.write_big_number.result c.write_big_number.ensures.written
 
 pub write_nested-returns-in-BigNumber-clause-refused :
     goal.write_nested-returns-in-BigNumber-clause-refused
 write_nested-returns-in-BigNumber-clause-refused g t c =
     as_error c.args.protocol c.args.level _ BigNumber
-    (λ not. or_itself _ _ (_, shaped _ c.in-BigNumber.is (rolls-BigNumber _), not))
+    (λ not. or_itself _ _ (_, shape_of_equal _ c.in-BigNumber.is (rolls-BigNumber _), not))
     c.write_big_number.result c.write_big_number.ensures.refused
 
 pub write_nested-returns-in-Verbatim-clause-written :
@@ -211,14 +217,14 @@ pub write_nested-returns-in-Verbatim-clause-written :
 write_nested-returns-in-Verbatim-clause-written g t c =
     valid_put c.args.protocol c.args.level _ _ _ _ c.if-is_foreign.ensures
     (λ valid. data_text c.args.protocol c.args.level _ Equals _
-    (shaped _ c.in-Verbatim.is (rolls-Verbatim _)) valid (search rules))
+    (shape_of_equal _ c.in-Verbatim.is (rolls-Verbatim _)) valid (search rules))
     c.write_verbatim.result c.write_verbatim.ensures.written
 
 pub write_nested-returns-in-Verbatim-clause-refused :
     goal.write_nested-returns-in-Verbatim-clause-refused
 write_nested-returns-in-Verbatim-clause-refused g t c =
     as_error c.args.protocol c.args.level _ Format
-    (λ not. or_itself _ _ (_, shaped _ c.in-Verbatim.is (rolls-Verbatim _), not))
+    (λ not. or_itself _ _ (_, shape_of_equal _ c.in-Verbatim.is (rolls-Verbatim _), not))
     c.write_verbatim.result c.write_verbatim.ensures.refused
 
 pub write_nested-returns-in_ok-write_integer-in-Integer-clause-written :
@@ -231,42 +237,44 @@ pub write_nested-returns-in_ok-write_line-in-Null-clause-written :
     goal.write_nested-returns-in_ok-write_line-in-Null-clause-written
 write_nested-returns-in_ok-write_line-in-Null-clause-written g t c =
     adds _ (line_text c.args.protocol c.args.level _ Underscore []
-    (shaped _ c.in-Null.is rolls-Null, refl) c.if-is_foreign.ensures)
+    (shape_of_equal _ c.in-Null.is rolls-Null, refl) c.if-is_foreign.ensures)
     c.in_ok-write_line-in-Null.ensures.written
 
 pub write_nested-returns-in_ok-write_line-in-Boolean-clause-written :
     goal.write_nested-returns-in_ok-write_line-in-Boolean-clause-written
 write_nested-returns-in_ok-write_line-in-Boolean-clause-written g t c =
     adds _ (line_text c.args.protocol c.args.level _ Hash _
-    (_, shaped _ c.in-Boolean.is (rolls-Boolean _), c.boolean_text.ensures) c.if-is_foreign.ensures)
+    (_, shape_of_equal _ c.in-Boolean.is (rolls-Boolean _), c.boolean_text.ensures)
+    c.if-is_foreign.ensures)
     c.in_ok-write_line-in-Boolean.ensures.written
 
 pub write_nested-returns-in_ok-write_data-in-BulkError-clause-written :
     goal.write_nested-returns-in_ok-write_data-in-BulkError-clause-written
 write_nested-returns-in_ok-write_data-in-BulkError-clause-written g t c =
     adds _ (data_text c.args.protocol c.args.level _ Exclamation _
-    (shaped _ c.in-BulkError.is (rolls-BulkError _)) tt (search rules) c.if-is_foreign.ensures)
+    (shape_of_equal _ c.in-BulkError.is (rolls-BulkError _)) tt (search rules)
+    c.if-is_foreign.ensures)
     c.in_ok-write_data-in-BulkError.ensures.written
 
 pub write_nested-returns-in_ok-write_data-in-Bulk-clause-written :
     goal.write_nested-returns-in_ok-write_data-in-Bulk-clause-written
 write_nested-returns-in_ok-write_data-in-Bulk-clause-written g t c =
     adds _ (data_text c.args.protocol c.args.level _ Dollar _
-    (shaped _ c.in-Bulk.is (rolls-Bulk _)) tt (search rules) c.if-is_foreign.ensures)
+    (shape_of_equal _ c.in-Bulk.is (rolls-Bulk _)) tt (search rules) c.if-is_foreign.ensures)
     c.in_ok-write_data-in-Bulk.ensures.written
 
 pub write_nested-returns-in_ok-write_line-in-NullBulk-clause-written :
     goal.write_nested-returns-in_ok-write_line-in-NullBulk-clause-written
 write_nested-returns-in_ok-write_line-in-NullBulk-clause-written g t c =
     adds _ (null_text c.args.protocol c.args.level _ (Data Dollar) tt
-    (shaped _ c.in-NullBulk.is rolls-NullBulk) c.if-is_foreign.ensures)
+    (shape_of_equal _ c.in-NullBulk.is rolls-NullBulk) c.if-is_foreign.ensures)
     c.in_ok-write_line-in-NullBulk.ensures.written
 
 pub write_nested-returns-in_ok-write_line-in-NullArray-clause-written :
     goal.write_nested-returns-in_ok-write_line-in-NullArray-clause-written
 write_nested-returns-in_ok-write_line-in-NullArray-clause-written g t c =
     adds _ (null_text c.args.protocol c.args.level _ (Aggregate Star) tt
-    (shaped _ c.in-NullArray.is rolls-NullArray) c.if-is_foreign.ensures)
+    (shape_of_equal _ c.in-NullArray.is rolls-NullArray) c.if-is_foreign.ensures)
     c.in_ok-write_line-in-NullArray.ensures.written
 
 -- ---- replies for which there is no room
@@ -283,7 +291,7 @@ pub write_nested-returns-in_err-write_line-in-Null-clause-full :
 write_nested-returns-in_err-write_line-in-Null-clause-full g t c =
     text_err c.args.protocol c.args.level _ c.args.into.now _ _
     (line_text c.args.protocol c.args.level _ Underscore []
-    (shaped _ c.in-Null.is rolls-Null, refl))
+    (shape_of_equal _ c.in-Null.is rolls-Null, refl))
     c.in_err-write_line-in-Null.ensures.full
 
 pub write_nested-returns-in_err-write_line-in-Boolean-clause-full :
@@ -291,14 +299,15 @@ pub write_nested-returns-in_err-write_line-in-Boolean-clause-full :
 write_nested-returns-in_err-write_line-in-Boolean-clause-full g t c =
     text_err c.args.protocol c.args.level _ c.args.into.now _ _
     (line_text c.args.protocol c.args.level _ Hash _
-    (_, shaped _ c.in-Boolean.is (rolls-Boolean _), c.boolean_text.ensures))
+    (_, shape_of_equal _ c.in-Boolean.is (rolls-Boolean _), c.boolean_text.ensures))
     c.in_err-write_line-in-Boolean.ensures.full
 
 pub write_nested-returns-in_err-write_data-in-Bulk-clause-full :
     goal.write_nested-returns-in_err-write_data-in-Bulk-clause-full
 write_nested-returns-in_err-write_data-in-Bulk-clause-full g t c =
     text_err c.args.protocol c.args.level _ c.args.into.now _ _
-    (data_text c.args.protocol c.args.level _ Dollar _ (shaped _ c.in-Bulk.is (rolls-Bulk _)) tt
+    (data_text c.args.protocol c.args.level _ Dollar _
+    (shape_of_equal _ c.in-Bulk.is (rolls-Bulk _)) tt
     (search rules)) c.in_err-write_data-in-Bulk.ensures.full
 
 pub write_nested-returns-in_err-write_data-in-BulkError-clause-full :
@@ -306,7 +315,7 @@ pub write_nested-returns-in_err-write_data-in-BulkError-clause-full :
 write_nested-returns-in_err-write_data-in-BulkError-clause-full g t c =
     text_err c.args.protocol c.args.level _ c.args.into.now _ _
     (data_text c.args.protocol c.args.level _ Exclamation _
-    (shaped _ c.in-BulkError.is (rolls-BulkError _)) tt (search rules))
+    (shape_of_equal _ c.in-BulkError.is (rolls-BulkError _)) tt (search rules))
     c.in_err-write_data-in-BulkError.ensures.full
 
 pub write_nested-returns-in_err-write_line-in-NullBulk-clause-full :
@@ -314,7 +323,7 @@ pub write_nested-returns-in_err-write_line-in-NullBulk-clause-full :
 write_nested-returns-in_err-write_line-in-NullBulk-clause-full g t c =
     text_err c.args.protocol c.args.level _ c.args.into.now _ _
     (null_text c.args.protocol c.args.level _ (Data Dollar) tt
-    (shaped _ c.in-NullBulk.is rolls-NullBulk))
+    (shape_of_equal _ c.in-NullBulk.is rolls-NullBulk))
     c.in_err-write_line-in-NullBulk.ensures.full
 
 pub write_nested-returns-in_err-write_line-in-NullArray-clause-full :
@@ -322,28 +331,34 @@ pub write_nested-returns-in_err-write_line-in-NullArray-clause-full :
 write_nested-returns-in_err-write_line-in-NullArray-clause-full g t c =
     text_err c.args.protocol c.args.level _ c.args.into.now _ _
     (null_text c.args.protocol c.args.level _ (Aggregate Star) tt
-    (shaped _ c.in-NullArray.is rolls-NullArray))
+    (shape_of_equal _ c.in-NullArray.is rolls-NullArray))
     c.in_err-write_line-in-NullArray.ensures.full
 
 pub write_nested-returns-in-Simple-clause-full : goal.write_nested-returns-in-Simple-clause-full
 write_nested-returns-in-Simple-clause-full g t c =
     valid_full c.args.protocol c.args.level _ c.args.into.now _ _
-    (λ valid. line_text c.args.protocol c.args.level _ Plus _
-    (_, shaped _ c.in-Simple.is (rolls-Simple _), shown_is (AllByRecursion InLine) _ valid))
+    (λ valid. line_text c.args.protocol c.args.level _ Plus _ (
+      _,
+      shape_of_equal _ c.in-Simple.is (rolls-Simple _),
+      shown_is (AllByRecursion IsLineByte) _ valid,
+    ))
     c.write_text.ensures.full
 
 pub write_nested-returns-in-Error-clause-full : goal.write_nested-returns-in-Error-clause-full
 write_nested-returns-in-Error-clause-full g t c =
     valid_full c.args.protocol c.args.level _ c.args.into.now _ _
-    (λ valid. line_text c.args.protocol c.args.level _ Minus _
-    (_, shaped _ c.in-Error.is (rolls-Error _), shown_is (AllByRecursion InLine) _ valid))
+    (λ valid. line_text c.args.protocol c.args.level _ Minus _ (
+      _,
+      shape_of_equal _ c.in-Error.is (rolls-Error _),
+      shown_is (AllByRecursion IsLineByte) _ valid,
+    ))
     c.write_text-in-Error.ensures.full
 
 pub write_nested-returns-in-Double-clause-full : goal.write_nested-returns-in-Double-clause-full
 write_nested-returns-in-Double-clause-full g t c =
     valid_full c.args.protocol c.args.level _ c.args.into.now _ _
     (λ valid. line_text c.args.protocol c.args.level _ Comma _
-    (_, shaped _ c.in-Double.is (rolls-Double _), shown_is IsDouble _ valid))
+    (_, shape_of_equal _ c.in-Double.is (rolls-Double _), shown_is IsDouble _ valid))
     c.write_double.ensures.full
 
 pub write_nested-returns-in-BigNumber-clause-full :
@@ -351,12 +366,12 @@ pub write_nested-returns-in-BigNumber-clause-full :
 write_nested-returns-in-BigNumber-clause-full g t c =
     valid_full c.args.protocol c.args.level _ c.args.into.now _ _
     (λ valid. line_text c.args.protocol c.args.level _ Parenthesis _
-    (_, shaped _ c.in-BigNumber.is (rolls-BigNumber _), shown_is IsBigNumber _ valid))
+    (_, shape_of_equal _ c.in-BigNumber.is (rolls-BigNumber _), shown_is IsBigNumber _ valid))
     c.write_big_number.ensures.full
 
 pub write_nested-returns-in-Verbatim-clause-full : goal.write_nested-returns-in-Verbatim-clause-full
 write_nested-returns-in-Verbatim-clause-full g t c =
     valid_full c.args.protocol c.args.level _ c.args.into.now _ _
     (λ valid. data_text c.args.protocol c.args.level _ Equals _
-    (shaped _ c.in-Verbatim.is (rolls-Verbatim _)) valid (search rules))
+    (shape_of_equal _ c.in-Verbatim.is (rolls-Verbatim _)) valid (search rules))
     c.write_verbatim.ensures.full

@@ -2,7 +2,7 @@ use Rattle.std.proofs.Common.{◌≤◌, ◌+◌, ◌*◌, ℕ, List, drop, vec_
 use Rattle.grammars.specs.Texts.{EachText}
 use Rattle.format_resp.proofs.Rooms.{LacksFor}
 use Rattle.format_resp.specs.Resp.{WrittenText}
-use Rattle.format_resp.specs.Written.{Adds, Keeps}
+use Rattle.format_resp.specs.Written.{Appends, IsPrefixOf}
 use Rattle.format_resp.proofs.write.+write.Given as goal
 
 -- an aggregate calls elements at a smaller depth, and these call replies at theirs
@@ -20,10 +20,10 @@ decreases-write_list g l = 3 * l.level + 1
 abbrev pub invariant-write_elements-loop-reply : goal.invariant-write_elements-loop-reply
 invariant-write_elements-loop-reply g l = record {
   ends : (after : List ℕ)
-      → Adds (EachText (WrittenText l.protocol l.level)) (drop l.reply-index l.replies)
+      → Appends (EachText (WrittenText l.protocol l.level)) (drop l.reply-index l.replies)
       l.into.items after
-      → Adds (EachText (WrittenText l.protocol l.level)) l.replies l.initial.into.items after;
-  kept : Keeps l.initial.into.items l.into.items;
+      → Appends (EachText (WrittenText l.protocol l.level)) l.replies l.initial.into.items after;
+  kept : IsPrefixOf l.initial.into.items l.into.items;
   room : vec_capacity l.initial.into ≤ vec_capacity l.into;
   lacks : LacksFor (EachText (WrittenText l.protocol l.level)) (drop l.reply-index l.replies) l.into
       → LacksFor (EachText (WrittenText l.protocol l.level)) l.replies l.initial.into;

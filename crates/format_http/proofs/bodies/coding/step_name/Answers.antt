@@ -4,7 +4,7 @@ use Rattle.format_http.proofs.BodiesLemmas.Steps.{name_token, step_by}
 use Rattle.format_http.specs.Bodies.Dues.{Others}
 use Rattle.format_http.specs.Heads.Bytes.{IsTokenByte}
 use Rattle.format_http.specs.declared.bodies.coding.Place.TheVariants as place
-use Rattle.format_http_chunked.proofs.Turns.{goes_out}
+use Rattle.format_http_chunked.proofs.Turns.{many_stops_at_byte}
 use Rattle.format_http_chunked.specs.Bodies.{Spaced, Value}
 use Rattle.format_http.proofs.bodies.coding.step_name.Goals as goal
 
@@ -12,6 +12,7 @@ pub returns-then-is_token : goal.returns-then-is_token
 returns-then-is_token c bytes = name_token _ bytes (c.if-is_token.ensures.0 refl)
 
 pub returns : goal.returns
-returns c = step_by place.Name place.NameWhite c.args.byte _ (λ bytes. goes_out IsTokenByte
+returns c = step_by place.Name place.NameWhite c.args.byte _
+    (λ bytes. many_stops_at_byte IsTokenByte
     (Spaced 61 (Value Others)) c.args.byte bytes (λ t. false≢true (c.if-is_token.ensures.1 t)))
     c.step_name_white.ensures

@@ -1,11 +1,11 @@
 use Rattle.std.proofs.Common.{arith, ap, inl, length, List, ℕ, [], ◌∷◌, refl}
 use Rattle.format_http_chunked.proofs.Calls.{byte_taken, fault_from, goes_on}
-use Rattle.format_http_chunked.proofs.Taking.{taken_none}
+use Rattle.format_http_chunked.proofs.Taking.{takes_nothing}
 use Rattle.format_http_chunked.proofs.decoder.Decoder.pass_byte.Goals as goal
 
 pub returns-in-Err-clause-told : goal.returns-in-Err-clause-told
 returns-in-Err-clause-told c = (
-  taken_none _ _,
+  takes_nothing _ _,
   (
     c.in-Some.byte.now,
     c.in-Some.rest.now,
@@ -28,7 +28,7 @@ returns-in-Some-checked_sub-clause-stands c = (c.in-Some.byte.now ∷ [], c.in-S
 
 pub returns-in-None-checked_sub-clause-told : goal.returns-in-None-checked_sub-clause-told
 returns-in-None-checked_sub-clause-told c = (
-  taken_none _ _,
+  takes_nothing _ _,
   (
     c.in-Some.byte.now,
     c.in-Some.rest.now,

@@ -1,7 +1,7 @@
 use Rattle.std.proofs.Common.{arith, inl, inr, refl, ap, ◌∙◌, length, List, ℕ, [], ◌∷◌}
 use Rattle.format_http_chunked.proofs.Calls.{fields_go_on, last_goes_on, never_at}
-use Rattle.format_http_chunked.proofs.Taking.{fields_never, last_taken, passed_front, taken_from}
-use Rattle.format_http_chunked.proofs.Taking.{taken_none}
+use Rattle.format_http_chunked.proofs.Taking.{fields_never, last_taken, passed_front}
+use Rattle.format_http_chunked.proofs.Taking.{taken_from_equal_place, takes_nothing}
 use Rattle.format_http_chunked.specs.declared.places.Framing.TheVariants as framing
 use Rattle.format_http_chunked.specs.declared.places.Place.TheVariants as place
 use Rattle.format_http_chunked.proofs.Standing.{front_before}
@@ -9,7 +9,7 @@ use Rattle.format_http_chunked.proofs.decoder.Decoder.pass_trailers.Goals as goa
 
 pub returns-then-not-ends_there-clause-told : goal.returns-then-not-ends_there-clause-told
 returns-then-not-ends_there-clause-told c = (
-  taken_none _ _,
+  takes_nothing _ _,
   (
     c.in-Some.byte.now,
     c.in-Some.behind.now,
@@ -28,14 +28,16 @@ returns-in-Some-checked_sub-clause-told c =
     let (taken, some) = passed_front _ _
     _ _ _ _ _ _ c.in-Some-field_behind.ensures.some c.in-Some-field_behind.ensures.begins
     c.in-Some.ensures.cases.0 (fields, e, passed) c.front.ensures in (
-      taken_from _ _ (place.Trailers c.pass_fields-last.result.0) _ _ [] c.front.result.now
+      taken_from_equal_place _ _ (place.Trailers c.pass_fields-last.result.0) _ _ []
+          c.front.result.now
           c.requires taken,
       some,
     )
 
 pub returns-in-Some-checked_sub-2-clause-told : goal.returns-in-Some-checked_sub-2-clause-told
 returns-in-Some-checked_sub-2-clause-told c = (
-  taken_from _ _ (place.Framing framing.LastReturn) _ _ [] [] c.requires (last_taken _ _ _ _
+  taken_from_equal_place _ _ (place.Framing framing.LastReturn) _ _ [] [] c.requires
+      (last_taken _ _ _ _
       c.if-not-ends_there.ensures c.in-Some.ensures.cases.0),
   omega (arith, ap (λ (l : List ℕ). length l) c.in-Some.ensures.cases.0),
 )
@@ -53,7 +55,7 @@ returns-in-Some-checked_sub-2-clause-stands c =
 
 pub returns-in-None-checked_sub-clause-told : goal.returns-in-None-checked_sub-clause-told
 returns-in-None-checked_sub-clause-told c = (
-  taken_none _ _,
+  takes_nothing _ _,
   (
     c.in-Some.byte.now,
     c.in-Some.behind.now,
@@ -69,7 +71,7 @@ returns-in-None-checked_sub-clause-told c = (
 pub returns-in-None-checked_sub-2-clause-told : goal.returns-in-None-checked_sub-2-clause-told
 returns-in-None-checked_sub-2-clause-told c =
     let (first, last) = c.if-not-ends_there.ensures in (
-      taken_none _ _,
+      takes_nothing _ _,
       (
         c.in-Some.byte.now,
         c.in-Some.behind.now,

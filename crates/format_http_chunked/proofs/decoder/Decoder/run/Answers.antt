@@ -1,9 +1,9 @@
 use Rattle.std.proofs.Common.{subst}
 use Rattle.std.specs.Prelude.{[], Ok, Err, Option}
 use Rattle.format_http_chunked.proofs.Calls.{said_then, spends_then, spent_then}
-use Rattle.format_http_chunked.proofs.Taking.{taken_then}
+use Rattle.format_http_chunked.proofs.Taking.{taken_in_turn}
 use Rattle.format_http_chunked.specs.Room.{PartSpends}
-use Rattle.format_http_chunked.specs.Steps.{IsPart}
+use Rattle.format_http_chunked.specs.Steps.{IsPartResult}
 use Rattle.format_http_chunked.specs.declared.decoder.Step.{Step}
 use Rattle.format_http_chunked.proofs.Standing.{stands_then}
 use Rattle.format_http_chunked.specs.Outputs.{PartBeforeRest}
@@ -19,7 +19,7 @@ returns-in-Err-clause-spent c = spends_then c.args.self.now c.bytes.self c.part.
 
 pub returns-in-Some-clause-told : goal.returns-in-Some-clause-told
 returns-in-Some-clause-told c =
-    let P : Option Step → Type 0 = λ o. IsPart c.bytes.self c.part.new.self c.bytes.input.now
+    let P : Option Step → Type 0 = λ o. IsPartResult c.bytes.self c.part.new.self c.bytes.input.now
     c.part.new.input.now (Ok o) in
     said_then c.args.self.now c.bytes.self c.part.new.self _ _ c.part.new.input.now (Ok
     c.in-Some.step) c.bytes.invariant.0 (subst P c.in-Some.is c.in-Ok.ensures.told)
@@ -33,11 +33,11 @@ returns-in-Some-clause-spent c =
 
 pub bytes-preserved : goal.bytes-preserved
 bytes-preserved c =
-    let P : Option Step → Type 0 = λ o. IsPart c.bytes.self c.part.new.self c.bytes.input.now
+    let P : Option Step → Type 0 = λ o. IsPartResult c.bytes.self c.part.new.self c.bytes.input.now
     c.part.new.input.now (Ok o) in
     let Q : Option Step → Type 0 = λ o. PartSpends c.bytes.self c.part.new.self
     c.bytes.input.now c.part.new.input.now (Ok o) in (
-      taken_then _ _ _ _ _ _ [] [] c.bytes.invariant.0 (subst P c.in-None.is
+      taken_in_turn _ _ _ _ _ _ [] [] c.bytes.invariant.0 (subst P c.in-None.is
           c.in-Ok.ensures.told).0,
       spent_then c.args.self.now c.bytes.self c.part.new.self _ _ _ _ c.bytes.invariant.1 (subst Q
           c.in-None.is c.in-Ok.ensures.spent),

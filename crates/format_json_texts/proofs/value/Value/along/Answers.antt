@@ -1,12 +1,12 @@
 use Rattle.std.proofs.Common.{None, Option, arith, option_map, subst, sym}
 use Rattle.format_json_texts.proofs.Named.{stepped, stepped_all, stepped_none}
-use Rattle.format_json_texts.specs.Kinds.{IsAlong}
+use Rattle.format_json_texts.specs.Kinds.{IsFoundAlong}
 use Rattle.format_json_texts.proofs.value.Value.along.Goals as goal
 
 pub returns-in_err-target : goal.returns-in_err-target
 returns-in_err-target g c =
     let P : Option _ → Type 0 =
-    λ o. IsAlong c.args.path.now c.args.self.now (option_map (λ v. v.now) o) in
+    λ o. IsFoundAlong c.args.path.now c.args.self.now (option_map (λ v. v.now) o) in
     subst P (sym c.from_residual.ensures)
     (c.steps.invariant None
     (stepped_none c.args.path.now c.steps.step-index _ c.steps.target.now (omega arith)
