@@ -9,7 +9,7 @@ use Rattle.stream_sets.specs.Accumulator.Holds.{Holds}
 use Rattle.format_toml.specs.declared.statements.Statements.{Statements}
 
 -- the statements of lines in order, without the lines that have none
-pub stated : {X : Type 0} → List (Option X) → List X
+abbrev pub stated : {X : Type 0} → List (Option X) → List X
 stated [] = []
 stated (None ∷ lines) = stated lines
 stated (Some x ∷ lines) = x ∷ stated lines

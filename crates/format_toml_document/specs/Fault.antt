@@ -75,8 +75,8 @@ IsUnexpected A level text faults.OutOfMemory = ⊤
 IsUnexpected A level text other = ⊥
 
 module _ (A : Type 0) (level : ℕ) (text : List ℕ) where
-  -- The text is lines of these statements, which give a tree, and places hold it. Its tables and arrays are
-  -- nested at most `level` deep.
+  -- The text is lines of these statements, which give a tree, and places hold it. Its tables and
+  -- arrays are nested at most `level` deep.
   abbrev pub IsDocument : Tree A → Type 0
   IsDocument tree =
       (lines : Vec (Item A) A) × DocumentText level lines (chars text)

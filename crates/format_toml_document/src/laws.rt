@@ -1,6 +1,6 @@
 //! Laws that follow from the contracts.
 ghost use Rattle.format_toml.specs.Toml.{DocumentText};
-ghost use Rattle.format_toml_document.specs.Alike.{AreAlikeLines};
+ghost use Rattle.format_toml_document.specs.Alike.{AreAlikeItems};
 ghost use Rattle.format_toml_document.specs.AlikeTrees.{AreAlikeTrees};
 ghost use Rattle.format_toml_document.specs.Fault.{IsDocument, IsErrorOf, OneBegins};
 ghost use Rattle.format_toml_document.specs.declared.fault.TomlError.{TomlError};
@@ -37,8 +37,8 @@ pub fn a_document_is_lines_of_text<A: Allocator>()
         → fault ≡ faults.OutOfMemory }
 {}
 
-/// A text is one list of lines, whatever allocates them: the lines of the same text are pairwise
-/// equivalent. They differ at most in where their strings and lists lie.
+/// A text is one list of lines, whatever allocates them: the statements of the same text are
+/// pairwise equivalent. They differ at most in where their strings and lists lie.
 ///
 /// ```
 /// use format_toml_document::laws::a_text_is_one_list_of_lines;
@@ -51,7 +51,7 @@ pub fn a_document_is_lines_of_text<A: Allocator>()
 pub fn a_text_is_one_list_of_lines<A: Allocator>()
     ensures { (level : ℕ) (lines other : Vec (Item A) A) (text : List ℕ)
         → DocumentText level lines text → DocumentText level other text
-        → ArePairwise (AreAlikeLines level) lines.items other.items }
+        → ArePairwise (AreAlikeItems level) lines.items other.items }
 {}
 
 /// Bytes have one tree: two trees of the same bytes have equivalent contents at each path. They

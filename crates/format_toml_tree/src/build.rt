@@ -77,13 +77,13 @@ fn fault_at(line: usize, stop: Stop) -> TreeError
     }
 }
 
-/// Builds the tree of some lines, or returns the first that is rejected.
+/// Builds the tree of the statements of some lines, or returns the first that is rejected.
 ///
 /// Each table and array of the tree is nested at most `level` deep: `[a]`, `a.b = 1` and `a = {}`
 /// make a table at depth 1, `[[a]]` an array at depth 1 and its tables at depth 2. So a caller who
 /// recurses into the tree needs a stack for `level` calls.
 ///
-/// The error has the number of the line, counted from 0, and why it is rejected; or memory
+/// The error has the number of the statement, counted from 0, and why it is rejected; or memory
 /// allocation failed. The tree borrows names and values from the lines. The time is by the number
 /// of all names, and for each by the logarithm of the number of entries of its table.
 ///
@@ -126,5 +126,6 @@ pub fn build<'t, A: Allocator + Copy>(
             Err(stop) => return Err(fault_at(line, stop)),
         }
     }
+    tree.slots.shrink_to_fit();
     Ok(tree)
 }

@@ -1,6 +1,9 @@
-use Rattle.std.proofs.Common.{[], ◌≡◌, Result, Err, refl, subst, sym, ◌+◌, ap, arith}
+use Rattle.std.proofs.Common.{[], ◌≡◌, List, Result, Err, refl, subst, sym, ap, arith}
 use Rattle.format_toml_tree.specs.Answer.{answers_fault, no_memory, answers_tree}
-use Rattle.format_toml_tree.specs.Holds.{AddsLine}
+use Rattle.format_toml_tree.specs.Holds.{AddsLine, HoldsTree}
+use Rattle.format_toml_tree.specs.Order.{HoldsInOrder}
+use Rattle.format_toml_tree.specs.contracts.build.build.{A-type}
+use Rattle.format_toml_tree.specs.declared.tree.Slot.{Slot}
 use Rattle.format_toml_tree.proofs.Lines.{LeftToAdd, all_added, all_in_order, left_added}
 use Rattle.format_toml_tree.proofs.Lines.{left_first, line_refused, some_place, stands}
 use Rattle.format_toml_tree.specs.Runs.{Gives, empty}
@@ -35,20 +38,25 @@ loop-line-preserved g c =
     c.in-Ok.ensures
 
 pub returns-clause-accepted : goal.returns-clause-accepted
-returns-clause-accepted g c = (
-  c.loop-line.invariant.tree,
-  all_added _ _ _ _ _ c.loop-line.invariant c.loop-line-test.false (omega arith),
-  (
-    c.loop-line.invariant.path,
-    c.loop-line.invariant.holds,
-    some_place _ _ _ _ _ c.loop-line.invariant,
-  ),
-  c.loop-line.invariant.nested,
-)
+returns-clause-accepted g c =
+    let P : List (Slot (A-type g.row.A)) → Type 0 = λ slots.
+    HoldsTree slots c.loop-line.invariant.tree in (
+      c.loop-line.invariant.tree,
+      all_added _ _ _ _ _ c.loop-line.invariant c.loop-line-test.false (omega arith),
+      subst P (sym c.shrink_to_fit.ensures.items) (
+        c.loop-line.invariant.path,
+        c.loop-line.invariant.holds,
+        some_place _ _ _ _ _ c.loop-line.invariant,
+      ),
+      c.loop-line.invariant.nested,
+    )
 
 pub returns-clause-order : goal.returns-clause-order
 returns-clause-order g c =
-    all_in_order _ _ _ _ _ c.loop-line.invariant c.loop-line-test.false (omega arith)
+    let P : List (Slot (A-type g.row.A)) → Type 0 = λ slots.
+    HoldsInOrder c.args.level c.args.lines.now slots in
+    subst P (sym c.shrink_to_fit.ensures.items)
+    (all_in_order _ _ _ _ _ c.loop-line.invariant c.loop-line-test.false (omega arith))
 
 pub returns-in_err-tree-clause-answers : goal.returns-in_err-tree-clause-answers
 returns-in_err-tree-clause-answers g c =
@@ -63,4 +71,4 @@ returns-in-Err-clause-answers g c =
 pub returns-clause-answers : goal.returns-clause-answers
 returns-clause-answers g c =
     let told = returns-clause-accepted g c in
-    answers_tree _ _ c.loop-line.tree _ told.1 told.2
+    answers_tree _ _ (record { slots = c.shrink_to_fit.new.self }) _ told.1 told.2
