@@ -1,9 +1,9 @@
 -- Where statements begin, line by line.
-use Rattle.std.specs.Prelude.{◌≡◌, ◌<◌, ◌≤◌, ℕ, zero, suc, Bool, true, false, List, length, Option}
-use Rattle.std.specs.Prelude.{◌++◌, Some, None}
+use Rattle.std.specs.Prelude.{◌≡◌, ◌<◌, ℕ, suc, Bool, true, false, List, length, Option}
+use Rattle.std.specs.Prelude.{◌++◌, Some, None, is_some}
 use Rattle.std.proofs.Common.{refl, sym, ap, subst, inl, inr, ◌∙◌, arith, length-append}
 use Rattle.format_parts.specs.Unique.{run_unique}
-use Rattle.format_toml.specs.Grammars.{Line, Newline}
+use Rattle.format_toml.specs.Grammars.{AnyItem, Line, Newline, SpacedOut}
 use Rattle.format_toml.specs.Starts.{HasStatement, IsLine, IsLineBefore, MatchesAtStart}
 use Rattle.format_toml.specs.Starts.{StatementStarts}
 use Rattle.format_toml.specs.Starts as starts
@@ -14,6 +14,11 @@ use Rattle.stream_sets.specs.AsChar.{IsSpace}
 
 none_some : {X : Type 0} {x : X} → None ≡ Some x → ⊥
 none_some e = cc
+
+-- the number of a statement on a line, and behind a line with a statement or without one
+abbrev pub IsNext : Bool → ℕ → ℕ → Type 0
+IsNext true n m = n ≡ suc m
+IsNext false n m = n ≡ m
 
 module _ (A : Type 0) (level : ℕ) where
   one_line : (text a b : List ℕ) (o p : Option (Item A)) → Line level text o a
@@ -37,15 +42,16 @@ module _ (A : Type 0) (level : ℕ) where
   one_kind text a b item (o1, o2, o3, c, d, x, inl (i, some, m), z, e)
       (p1, p2, p3, g, h, u, inr (none, not, k), w, f) =
       let same : c ≡ g = (run_unique IsSpace 0).one text o1 p1 c g x u in
-      subst (λ l. (j : Item A) (r : List ℕ) → _ l j r → ⊥) (sym same) not i d m
+      subst (λ l. NoMatch (SpacedOut (AnyItem {A = A} level)) l) (sym same) not i d m
+
+  -- whether a line has a statement
+  pub line_told : (text end : List ℕ) (o : Option (Item A)) → Line level text o end
+      → IsLine A level text (is_some o) end
+  line_told text end None x = x
+  line_told text end (Some item) x = (item, x)
 
   has_line : (text end : List ℕ) → IsLine A level text true end → HasStatement A level text
   has_line text end (item, x) = (item, end, x)
-
-  -- how many statements are before, on a line and behind it
-  abbrev pub IsNext : Bool → ℕ → ℕ → Type 0
-  IsNext true n m = n ≡ suc m
-  IsNext false n m = n ≡ m
 
   module _ (text end behind : List ℕ) (ends : MatchesAtStart Newline end behind) where
     pub step_there : (b : Bool) (n m : ℕ) (line : List ℕ) → IsLine A level text b end

@@ -1,5 +1,5 @@
 -- The statements of lines.
-use Rattle.std.specs.Prelude.{◌≡◌, ◌≤◌, ℕ, List, [], ◌∷◌, ◌++◌, Option, Some, None, vec_capacity}
+use Rattle.std.specs.Prelude.{◌≡◌, ◌≤◌, List, [], ◌∷◌, ◌++◌, Option, Some, None, vec_capacity}
 use Rattle.std.specs.Prelude.{vec_len}
 use Rattle.std.specs.List.{FoldsTo}
 use Rattle.std.proofs.Common.{sym, ap, ◌∙◌, append_assoc}

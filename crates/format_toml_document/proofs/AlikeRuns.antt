@@ -1,5 +1,5 @@
 -- Proofs that equivalent lines give equivalent trees, or are both rejected.
-use Rattle.std.specs.Prelude.{ℕ, List, [], ◌∷◌, Option, Result, Ok, Err}
+use Rattle.std.specs.Prelude.{ℕ, List, [], ◌∷◌, Result, Ok, Err}
 use Rattle.std.proofs.Common.{refl, sym, ap, subst, subst₂, inl, inr}
 use Rattle.grammars.specs.Pairwise.{ArePairwise}
 use Rattle.format_toml_document.specs.Alike.{AreAlikeEntries, AreAlikeItems, AreAlikeKeys}

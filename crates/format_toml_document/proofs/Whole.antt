@@ -26,8 +26,8 @@ use Rattle.format_toml_document.proofs.LongBacks.{long_back, long_blank_back, lo
 use Rattle.format_toml_document.proofs.LongBacks.{long_return_back, quotes_back}
 use Rattle.format_toml_document.proofs.Parts.{lines_made, newline_long}
 use Rattle.format_toml_document.proofs.Rests.{After, Rest}
-use Rattle.format_toml_document.proofs.Thens.{Fits, cons, fit_parts, least_counts, nil, stated_listed}
-use Rattle.format_toml_document.proofs.Thens.{to}
+use Rattle.format_toml_document.proofs.Thens.{Fits, cons, fit_parts, least_counts, nil, to}
+use Rattle.format_toml_document.proofs.Thens.{stated_listed}
 use Rattle.format_toml_document.proofs.Thens.{none, parts, run_more, run_none, token, members_none}
 use Rattle.format_toml_document.proofs.Values.{after_back, closing_back, comment_back, element_back}
 use Rattle.format_toml_document.proofs.Values.{figure_back, first_back, header_back, line_back}

@@ -1,6 +1,6 @@
 -- Lines that are added to a tree, in sequence.
 use Rattle.std.specs.Prelude.{◌≡◌, ℕ, zero, suc, ◌+◌, ◌<◌, ◌≤◌, List, [], ◌∷◌, length, drop, Err}
-use Rattle.std.specs.Prelude.{None, Ok, Option, Result, Some, get_or, slice_get}
+use Rattle.std.specs.Prelude.{None, Ok, Result, Some, get_or, slice_get}
 use Rattle.std.proofs.Common.{refl, sym, ap, subst, inl, inr, ◌∙◌, arith}
 use Rattle.format_toml_tree.specs.Paths.{Path, Step}
 use Rattle.format_toml_tree.specs.Rules.{Says, nothing, passes}

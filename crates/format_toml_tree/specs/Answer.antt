@@ -1,5 +1,5 @@
 -- The relation between the result and the tree that the lines of a document give.
-use Rattle.std.specs.Prelude.{◌≡◌, ℕ, List, [], Option, Result, Ok, Err}
+use Rattle.std.specs.Prelude.{◌≡◌, ℕ, List, [], Result, Ok, Err}
 use Rattle.std.proofs.Common.{refl, subst}
 use Rattle.format_toml_tree.specs.Runs.{Gives, empty, Tree as Given}
 use Rattle.format_toml_tree.specs.Holds.{HoldsTree}

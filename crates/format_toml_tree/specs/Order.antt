@@ -1,5 +1,5 @@
 -- The order of the entries of a table: that in which the lines first name them.
-use Rattle.std.specs.Prelude.{◌≡◌, ℕ, ◌<◌, List, [], ◌∷◌, ◌++◌, Option, Some, Ok, length}
+use Rattle.std.specs.Prelude.{◌≡◌, ℕ, ◌<◌, List, [], ◌∷◌, ◌++◌, Some, Ok, length}
 use Rattle.std.specs.Prelude.{slice_get}
 use Rattle.format_toml_tree.specs.Access.{entry_names}
 use Rattle.format_toml_tree.specs.Holds.{Holds}

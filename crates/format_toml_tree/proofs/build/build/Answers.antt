@@ -4,7 +4,7 @@ use Rattle.format_toml_tree.specs.Holds.{AddsLine, HoldsTree}
 use Rattle.format_toml_tree.specs.Order.{HoldsInOrder}
 use Rattle.format_toml_tree.specs.contracts.build.build.{A-type}
 use Rattle.format_toml_tree.specs.declared.tree.Slot.{Slot}
-use Rattle.format_toml_tree.proofs.Lines.{LeftToAdd, all_added, all_in_order, left_added}
+use Rattle.format_toml_tree.proofs.Lines.{all_added, all_in_order, left_added}
 use Rattle.format_toml_tree.proofs.Lines.{left_first, line_refused, some_place, stands}
 use Rattle.format_toml_tree.specs.Runs.{Gives, empty}
 use Rattle.format_toml_tree.specs.declared.build.TreeError.{TreeError}
