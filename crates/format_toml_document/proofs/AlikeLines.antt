@@ -148,7 +148,7 @@ module _ {A : Type 0} where
   AreAlikeLines level (Some i) None = ⊥
   AreAlikeLines level (Some i) (Some j) = AreAlikeItems level i j
 
-  line_agrees : (level : ℕ) → Agrees (AreAlikeLines {A = A} level) (Line level)
+  line_agrees : (level : ℕ) → Agrees (AreAlikeLines level) (Line level)
   line_agrees level =
       between_agrees _ (run_unique IsSpace 0)
       (optional_agrees {like = AreAlikeLines level} tt (λ i j are. are)
