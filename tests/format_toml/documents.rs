@@ -153,22 +153,22 @@ const ROWS: &[(usize, &str, &str)] = &[
     (
         0,
         "[[products]]\nname = \"Hammer\"\n\n[[products]]  # empty table within the array\n\n[[ fruits . varieties ]]",
-        "[[products]]|name='Hammer'||[[products]]||[[fruits;varieties]]|",
+        "[[products]]|name='Hammer'|[[products]]|[[fruits;varieties]]|",
     ),
     (
         0,
         "[table-1]\nkey1 = \"some string\"\nkey2 = 123\n\n[table-2]\nkey1 = \"another string\"\n\
          key2 = 456",
-        "[table-1]|key1='some string'|key2=123||[table-2]|key1='another string'|key2=456|",
+        "[table-1]|key1='some string'|key2=123|[table-2]|key1='another string'|key2=456|",
     ),
-    (0, "[ g ]\n\t[\th_1\t]\t# one\n", "[g]|[h_1]||"),
+    (0, "[ g ]\n\t[\th_1\t]\t# one\n", "[g]|[h_1]|"),
     // Lines
-    (0, "", "|"),
-    (0, "\n", "||"),
-    (0, " \t", "|"),
-    (0, "\r\n", "||"),
-    (0, "a=1\r\n\r\n  # \u{e9}\t~\r\n  b = 2 \t", "a=1|||b=2|"),
-    (0, "#", "|"),
+    (0, "", ""),
+    (0, "\n", ""),
+    (0, " \t", ""),
+    (0, "\r\n", ""),
+    (0, "a=1\r\n\r\n  # \u{e9}\t~\r\n  b = 2 \t", "a=1|b=2|"),
+    (0, "#", ""),
 ];
 
 /// An invalid document, and the number of bytes before the item or the line ending that is not

@@ -123,24 +123,23 @@ fn show_value<A: Allocator>(
     }
 }
 
-/// Writes the item of a line, and a bar after it.
+/// Writes the statement of a line, and a bar after it.
 pub fn show<A: Allocator>(
-    item: &Option<Item<A>>,
+    item: &Item<A>,
     into: &mut String<Global>,
 ) -> Result<(), AllocError> {
     match item {
-        None => {}
-        Some(Item::Table(name)) => {
+        Item::Table(name) => {
             into.push_str("[")?;
             show_key(name, into)?;
             into.push_str("]")?;
         }
-        Some(Item::Tables(name)) => {
+        Item::Tables(name) => {
             into.push_str("[[")?;
             show_key(name, into)?;
             into.push_str("]]")?;
         }
-        Some(Item::Entry(key, value)) => {
+        Item::Entry(key, value) => {
             show_key(key, into)?;
             into.push_str("=")?;
             show_value(value, into)?;

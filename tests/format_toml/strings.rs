@@ -173,9 +173,9 @@ fn entry(alloc: Global, text: &str) -> String<Global> {
 }
 
 /// Whether the value of `a` is this text.
-fn same_value(rt: &impl Abort, row: &str, item: &Option<Item<Global>>, want: &str) {
+fn same_value(rt: &impl Abort, row: &str, item: &Item<Global>, want: &str) {
     match item {
-        Some(Item::Entry(_, Value::Text(text))) => assert_eq!(rt; text.as_str(), want, "{row:?}"),
+        Item::Entry(_, Value::Text(text)) => assert_eq!(rt; text.as_str(), want, "{row:?}"),
         _ => assert!(rt; false, "{row:?}"),
     }
 }

@@ -4,6 +4,8 @@
 #[cfg(test)]
 mod faults;
 #[cfg(test)]
+mod memory;
+#[cfg(test)]
 mod invalid_strings;
 #[cfg(test)]
 mod invalid_tables;

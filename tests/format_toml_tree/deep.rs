@@ -16,27 +16,27 @@ fn key_of(alloc: Global, depth: usize, last: usize) -> Result<Key<Global>, Wrong
 }
 
 /// Twenty thousand keys.
-fn many_keys(alloc: Global) -> Result<Vec<Option<Item<Global>>>, Wrong> {
+fn many_keys(alloc: Global) -> Result<Vec<Item<Global>>, Wrong> {
     let mut lines = Vec::new(alloc);
     for k in 0..20_000usize {
-        lines.push(Some(Item::Entry(key_of(alloc, 1, k)?, Value::Integer(1))))?;
+        lines.push(Item::Entry(key_of(alloc, 1, k)?, Value::Integer(1)))?;
     }
     Ok(lines)
 }
 
 /// Twenty thousand headers with dots.
-fn many_headers(alloc: Global) -> Result<Vec<Option<Item<Global>>>, Wrong> {
+fn many_headers(alloc: Global) -> Result<Vec<Item<Global>>, Wrong> {
     let mut lines = Vec::new(alloc);
     for k in 0..20_000usize {
-        lines.push(Some(Item::Table(key_of(alloc, 4, k)?)))?;
+        lines.push(Item::Table(key_of(alloc, 4, k)?))?;
     }
     Ok(lines)
 }
 
 /// A header of this number of names.
-fn deep_header(alloc: Global, depth: usize) -> Result<Vec<Option<Item<Global>>>, Wrong> {
+fn deep_header(alloc: Global, depth: usize) -> Result<Vec<Item<Global>>, Wrong> {
     let mut lines = Vec::new(alloc);
-    lines.push(Some(Item::Table(key_of(alloc, depth, 0)?)))?;
+    lines.push(Item::Table(key_of(alloc, depth, 0)?))?;
     Ok(lines)
 }
 
@@ -93,7 +93,7 @@ fn build_rejects_deeper_headers(rt: HostRuntime) {
     match deep_header(rt.alloc(), 80_000) {
         Ok(lines) => {
             let fault = build(rt.alloc(), 79_999, lines.as_slice()).err();
-            let want = TreeError::Invalid { line: 0, why: Reason::TooDeep };
+            let want = TreeError::Invalid { statement: 0, why: Reason::TooDeep };
             assert!(rt; fault.is_some_and(|fault| fault == want));
         }
         Err(_) => assert!(rt; false),

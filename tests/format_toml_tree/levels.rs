@@ -40,7 +40,7 @@ fn build_takes_what_is_as_deep_as_the_level(rt: HostRuntime) {
             Ok(lines) => {
                 assert!(rt; build(rt.alloc(), *depth, lines.as_slice()).is_ok(), "{text:?}");
                 let fault = build(rt.alloc(), *depth - 1, lines.as_slice()).err();
-                let want = TreeError::Invalid { line: *line, why: Reason::TooDeep };
+                let want = TreeError::Invalid { statement: *line, why: Reason::TooDeep };
                 assert!(rt; fault.is_some_and(|fault| fault == want), "{text:?}");
             }
             Err(_) => assert!(rt; false, "{text:?}"),
@@ -54,7 +54,7 @@ fn build_names_the_reason_of_the_standard(rt: HostRuntime) {
     match lines_of(rt.alloc(), "a = { b.c = 1, d = 2, d = 3 }") {
         Ok(lines) => {
             let fault = build(rt.alloc(), 1, lines.as_slice()).err();
-            let want = TreeError::Invalid { line: 0, why: Reason::Defined };
+            let want = TreeError::Invalid { statement: 0, why: Reason::Defined };
             assert!(rt; fault.is_some_and(|fault| fault == want));
         }
         Err(_) => assert!(rt; false),

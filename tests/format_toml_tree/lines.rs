@@ -127,14 +127,13 @@ impl<'t> Rest<'t> {
     }
 }
 
-/// Parses the lines of a text.
-pub fn lines_of(
-    alloc: Global,
-    text: &str,
-) -> Result<Vec<Option<Item<Global>>>, Wrong> {
+/// Parses the lines of a text that are not blank.
+pub fn lines_of(alloc: Global, text: &str) -> Result<Vec<Item<Global>>, Wrong> {
     let mut lines = Vec::new(alloc);
     for line in text.split('\n') {
-        lines.push(Rest::new(line).line(alloc)?)?;
+        if let Some(item) = Rest::new(line).line(alloc)? {
+            lines.push(item)?;
+        }
     }
     Ok(lines)
 }

@@ -3,26 +3,26 @@ use super::lines::lines_of;
 use format_toml_tree::build::{TreeError, build};
 use format_toml_tree::roles::Reason;
 
-/// A document, its first invalid line, counted from 0, and the reason. The first are from
+/// A document, the number of its first invalid statement, from 0, and the reason. The first are from
 /// toml.io/en/v1.0.0 (Keys to Array of Tables), the following from toml-test (invalid: table,
 /// array, inline-table, key), with integers for strings. Python's `tomllib` rejects the text up to
-/// and including that line, and accepts the lines before it.
+/// and including that statement, and accepts the lines before it.
 const ROWS: &[(&str, usize, Reason)] = &[
     ("name = 1\nname = 2", 1, Reason::Defined),
     ("spelling = 1\nspelling = 2", 1, Reason::Defined),
     ("fruit.apple = 1\nfruit.apple.smooth = 2", 1, Reason::NoTable),
     ("fruit.apple.smooth = 2\nfruit.apple = 1", 1, Reason::Defined),
     ("a = 1\nb = 2\na = 3\na = 4", 2, Reason::Defined),
-    ("[fruit]\napple = 1\n\n[fruit]\norange = 2", 3, Reason::Defined),
-    ("[fruit]\napple = 1\n\n[fruit.apple]\ntexture = 2", 3, Reason::Defined),
+    ("[fruit]\napple = 1\n\n[fruit]\norange = 2", 2, Reason::Defined),
+    ("[fruit]\napple = 1\n\n[fruit.apple]\ntexture = 2", 2, Reason::Defined),
     ("[fruit]\napple.color = 1\napple.taste.sweet = 2\n[fruit.apple]", 3, Reason::Defined),
     ("[fruit]\napple.color = 1\napple.taste.sweet = 2\n[fruit.apple.taste]", 3, Reason::Defined),
     ("[product]\ntype = { name = 1 }\ntype.edible = 2", 2, Reason::Closed),
     ("[product]\ntype.name = 1\ntype = { edible = 2 }", 2, Reason::Defined),
-    ("[fruit.physical]\ncolor = 1\nshape = 2\n\n[[fruit]]\nname = 3", 4, Reason::NoTables),
-    ("fruits = []\n\n[[fruits]]", 2, Reason::NoTables),
-    ("[[fruits]]\nname = 1\n\n[[fruits.varieties]]\nname = 2\n\n[fruits.varieties]\nname = 3", 6, Reason::Defined),
-    ("[[fruits]]\nname = 1\n\n[fruits.physical]\ncolor = 2\n\n[[fruits.physical]]\ncolor = 3", 6, Reason::NoTables),
+    ("[fruit.physical]\ncolor = 1\nshape = 2\n\n[[fruit]]\nname = 3", 3, Reason::NoTables),
+    ("fruits = []\n\n[[fruits]]", 1, Reason::NoTables),
+    ("[[fruits]]\nname = 1\n\n[[fruits.varieties]]\nname = 2\n\n[fruits.varieties]\nname = 3", 4, Reason::Defined),
+    ("[[fruits]]\nname = 1\n\n[fruits.physical]\ncolor = 2\n\n[[fruits.physical]]\ncolor = 3", 4, Reason::NoTables),
     ("[a.b.c]\nz = 9\n[a]\nb.c.t = 1", 3, Reason::Closed),
     ("[a.b.c.d]\nz = 9\n[a]\nb.c.d.k.t = 1", 3, Reason::Closed),
     ("[[a.b]]\n[a]\nb.y = 2", 2, Reason::Closed),
@@ -61,7 +61,7 @@ const ROWS: &[(&str, usize, Reason)] = &[
     ("[a]\nb = 1\nb.c = 2", 2, Reason::NoTable),
     ("[a.b]\n[a]\nb = 1", 2, Reason::Defined),
     ("[[a.b]]\n[a]\nb = 1", 2, Reason::Defined),
-    ("\n[a]\n\n[b]\nc = 1\n[a]\nc = 1\n[b]", 5, Reason::Defined),
+    ("\n[a]\n\n[b]\nc = 1\n[a]\nc = 1\n[b]", 3, Reason::Defined),
 ];
 
 #[test]
@@ -71,7 +71,7 @@ fn build_names_the_first_line(rt: HostRuntime) {
             Ok(lines) => match build(rt.alloc(), 9, lines.as_slice()) {
                 Ok(_) => assert!(rt; false, "{text:?}"),
                 Err(fault) => {
-                    let want = TreeError::Invalid { line: *line, why: *why };
+                    let want = TreeError::Invalid { statement: *line, why: *why };
                     assert_eq!(rt; fault, want, "{text:?}");
                 }
             },
@@ -84,16 +84,16 @@ fn build_names_the_first_line(rt: HostRuntime) {
 fn faults_say_the_line_and_why(rt: HostRuntime) {
     let rows = [
         (TreeError::OutOfMemory, "out of memory"),
-        (TreeError::Invalid { line: 0, why: Reason::Defined }, "line 1: key is already defined"),
-        (TreeError::Invalid { line: 8, why: Reason::NoTable }, "line 9: key is not a table"),
-        (TreeError::Invalid { line: 1, why: Reason::Closed }, "line 2: table cannot be extended"),
+        (TreeError::Invalid { statement: 0, why: Reason::Defined }, "statement 1: key is already defined"),
+        (TreeError::Invalid { statement: 8, why: Reason::NoTable }, "statement 9: key is not a table"),
+        (TreeError::Invalid { statement: 1, why: Reason::Closed }, "statement 2: table cannot be extended"),
         (
-            TreeError::Invalid { line: 2, why: Reason::NoTables },
-            "line 3: key is not an array of tables",
+            TreeError::Invalid { statement: 2, why: Reason::NoTables },
+            "statement 3: key is not an array of tables",
         ),
         (
-            TreeError::Invalid { line: 0, why: Reason::TooDeep },
-            "line 1: table or array is nested too deep",
+            TreeError::Invalid { statement: 0, why: Reason::TooDeep },
+            "statement 1: table or array is nested too deep",
         ),
     ];
     for (fault, wanted) in rows {

@@ -4,6 +4,7 @@
 #![tactic(auto)]
 
 pub mod at;
+pub mod counting;
 pub mod failing;
 pub mod outcomes;
 pub mod placed;

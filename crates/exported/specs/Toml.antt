@@ -91,7 +91,7 @@ WantsTree tree found = IsSizeOf tree (record { nodes = found.nodes; text = found
 -- arrays are nested at most `level` deep.
 pub record ShowsDocument (level : ℕ) (bytes text : List ℕ) (nodes : List TomlNode) : Type 0 where
   pub is_text : IsUtf8 bytes
-  pub lines : Vec (Option (Item Global)) Global
+  pub lines : Vec (Item Global) Global
   pub are_lines : DocumentText level lines (chars bytes)
   pub given : Given Global
   pub gives : Gives level (empty, []) 0 lines.items (Ok given)

@@ -14,5 +14,7 @@ pub mod PlainLemmas
 pub mod Rows
 pub mod ScalarsLemmas
 pub mod SpacesLemmas
+pub mod StartsLemmas
+pub mod StatementsLemmas
 pub mod StringsLemmas
 pub mod TimesLemmas

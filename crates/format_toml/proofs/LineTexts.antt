@@ -12,7 +12,7 @@ use Rattle.format_toml.proofs.Rows.{joined_begins, parted_ends_of}
 use Rattle.format_toml.specs.Scalars.{ContinuesScalar, Goes}
 use Rattle.format_toml.specs.Toml.{ArrayText, ArrayValuesText, Gapped, InlineText, IsArray}
 use Rattle.format_toml.specs.Toml.{IsInline, MarkText, PairText, Spaced, ValueText, WideMarkText}
-use Rattle.format_toml.specs.Toml.{DocumentText, IsEntry, ItemText, LineText}
+use Rattle.format_toml.specs.Toml.{DocumentText, HasStatements, IsEntry, ItemText, LineText}
 use Rattle.format_toml.specs.Unique.{wide_mark_unique}
 use Rattle.format_toml_tree.specs.declared.value.Value.{Value}
 use Rattle.grammars.specs.Grammar.{Both, Grammar, NoMatch}
@@ -23,7 +23,7 @@ use Rattle.grammars.specs.Texts.Fronts.{front_begins, front_behind, in_list_fron
 use Rattle.grammars.specs.Texts.Fronts.{none_begins, optional_front, spelled_begins, may_begin_more}
 use Rattle.grammars.specs.Texts.Fronts.{may_begin_none}
 use Rattle.grammars.specs.Texts.Parts.{behind_less, both_of, optional_of}
-use Rattle.grammars.specs.Texts.Rows.{list_of, none_both, parted_of}
+use Rattle.grammars.specs.Texts.Rows.{gathered_of, list_of, none_both, parted_of}
 use Rattle.format_toml.proofs.LedLemmas.{led_of}
 use Rattle.format_toml.proofs.ScalarsLemmas.{scalar_begins, scalar_of, white_front, wide_front}
 use Rattle.format_toml.proofs.SpacesLemmas.{OpensGap, Past, WidePast, gapped_begins, gapped_of}
@@ -231,7 +231,7 @@ module _ {A : Type 0} (level : ℕ) where
 pub document_of : {A : Type 0} (level : ℕ)
     → IsGrammarOf (Document {A = A} level) (DocumentText level) AtEnd
 document_of level =
-    list_of (parted_of (line_of level) newline_of (front_begins (λ c is. is) newline_begins)
+    gathered_of HasStatements (parted_of (line_of level) newline_of (front_begins (λ c is. is) newline_begins)
     front_any (from_to 1 None) 1 refl (may_begin_none IsBreak)
     (λ rest e. none_begins newline_of newline_begins rest
     (may_begin_none (λ c. IsBreak c → ⊥) rest e))

@@ -9,7 +9,8 @@ use Rattle.format_parts.specs.Hexadecimal.{CodeUnit, IsAlone}
 use Rattle.format_parts.specs.Words.{Char, RunOf, Slice, Word, former, latter, pair}
 use Rattle.format_toml.specs.Led.{Led}
 use Rattle.format_toml.specs.LongGrammars.{Long, Part}
-use Rattle.format_toml.specs.Toml.{IsArray, IsBoolean, IsEntry, IsInline, IsKey, IsTable, IsTables}
+use Rattle.format_toml.specs.Toml.{HasStatements, IsArray, IsBoolean, IsEntry, IsInline, IsKey}
+use Rattle.format_toml.specs.Toml.{IsTable, IsTables}
 use Rattle.format_toml.specs.Toml.{IsText, IsWide, PlainText, SetResult, StandsFor, false_word}
 use Rattle.format_toml.specs.Toml.{true_word}
 use Rattle.format_toml.specs.declared.characters.Characters.{Characters}
@@ -230,6 +231,5 @@ module _ {A : Type 0} where
   Line level = Three (λ o1 o2 o3. o2) Ws (Optional (SpacedOut (AnyItem level)))
       (Optional AnyComment)
 
-  abbrev pub Document : ℕ → Grammar ℕ (Vec (Option (Item A)) A)
-  Document level =
-      Gathered (λ list os. list.items ≡ os) (Parted (Line level) Newline (from_to 1 None))
+  abbrev pub Document : ℕ → Grammar ℕ (Vec (Item A) A)
+  Document level = Gathered HasStatements (Parted (Line level) Newline (from_to 1 None))

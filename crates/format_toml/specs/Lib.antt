@@ -13,6 +13,7 @@ pub mod Numbers
 pub mod Plain
 pub mod Scalars
 pub mod Starts
+pub mod Statements
 pub mod Times
 pub mod Toml
 pub mod Unique

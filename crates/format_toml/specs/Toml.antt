@@ -26,6 +26,7 @@ use Rattle.grammars.specs.Texts.{Members, OptionalText, PartedText, Spelled, Tex
 use Rattle.format_toml.specs.Floats.{FloatText}
 use Rattle.format_toml.specs.LongTexts.{LongText, NoneWritten}
 use Rattle.format_toml.specs.Numbers.{IntegerText}
+use Rattle.format_toml.specs.Statements.{stated}
 
 -- ---- characters
 
@@ -108,6 +109,10 @@ module _ {A : Type 0} where
 
   abbrev pub IsEntry : Key A × Value A → Item A → Type 0
   IsEntry both item = item ≡ items.Entry both.0 both.1
+
+  -- the statements of lines, without the lines that have none
+  abbrev pub HasStatements : Vec (Item A) A → List (Option (Item A)) → Type 0
+  HasStatements list lines = list.items ≡ stated lines
 
 -- ---- whitespace
 
@@ -299,6 +304,7 @@ module _ {A : Type 0} where
       (BothText former (OptionalText (Spaced (ItemText level)))
       (OptionalText CommentText))
 
-  -- toml = expression *( newline expression )
-  abbrev pub DocumentText : ℕ → Text ℕ (Vec (Option (Item A)) A)
-  DocumentText level = InList (AtLeast 1 (PartedText NewlineText (LineText level)))
+  -- toml = expression *( newline expression ), for the statements of these
+  abbrev pub DocumentText : ℕ → Text ℕ (Vec (Item A) A)
+  DocumentText level =
+      GatheredText HasStatements (AtLeast 1 (PartedText NewlineText (LineText level)))

@@ -64,7 +64,7 @@ ruleset uniques = (
 pub newline_unique : IsUnique Newline
 newline_unique = search uniques depth 40
 
-newline_takes : TakesTokens Newline
+pub newline_takes : TakesTokens Newline
 newline_takes =
     either_takes (char_takes 10)
     (both_take latter (char_unique 13) (char_unique 10) (inl (char_takes 13)))

@@ -46,6 +46,7 @@ mod parts;
 mod plain;
 mod scalars;
 pub mod starts;
+mod statements;
 mod strings;
 mod units;
 pub mod value;

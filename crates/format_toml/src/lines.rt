@@ -180,10 +180,11 @@ pub(crate) fn read_line<'i, A: Allocator + Copy>(
 }
 
 /// Parses a document, all of the text: lines of TOML, separated by a line feed, or by a carriage
-/// return and a line feed. Returns the statement of each line, or `None` for a blank one. An array
-/// may continue over line endings. The arrays and inline tables of values are nested at most
-/// `level` deep, and each level uses some of the stack, as in
-/// [`read_value`](crate::values::read_value). Lines may state a key or a table again.
+/// return and a line feed. Returns the statements of the lines in order; a line that is blank or has
+/// only a comment has none, and takes no memory. An array may continue over line endings. The
+/// arrays and inline tables of values are nested at most `level` deep, and each level uses some of
+/// the stack, as in [`read_value`](crate::values::read_value). Lines may state a key or a table
+/// again.
 ///
 /// If the text is not such lines, the error gives the byte at which parsing stopped: at the first
 /// line that is not TOML, which is tested, not proved. Otherwise the error is out of memory.
@@ -194,10 +195,10 @@ pub(crate) fn read_line<'i, A: Allocator + Copy>(
 ///
 /// let text = "# who\n[server]\nport = 80 # of it\n";
 /// let lines = parse_lines(alloc, 1, text);
-/// assert!(rt; matches!(lines, Ok(lines) if lines.len() == 4));
+/// assert!(rt; matches!(lines, Ok(lines) if lines.len() == 2));
 /// let port = parse_lines(alloc, 1, "port = 80");
 /// assert!(rt; matches!(port, Ok(lines)
-///     if matches!(&lines[0], Some(Item::Entry(_, Value::Integer(80))))));
+///     if matches!(&lines[0], Item::Entry(_, Value::Integer(80)))));
 /// assert!(rt; parse_lines(alloc, 1, "port = 080").is_err());
 /// ```
 pub fn parse_lines<'i, A: Allocator + Copy>(

@@ -1,6 +1,7 @@
 //! Rules made of parts: they are specified by the grammars of the parts, for any parsers and over
 //! any stream.
 ghost use Rattle.format_toml.specs.Grammars.{Listing};
+ghost use Rattle.format_toml.specs.Statements.{stated};
 ghost use Rattle.format_parts.specs.Words.{former, latter, pair};
 ghost use Rattle.std.specs.Fn.{CalledAtMut};
 ghost use Rattle.std.specs.Prelude.{◌≡◌, ⊤, false, None};
@@ -12,6 +13,7 @@ ghost use Rattle.grammars.specs.Grammar.{Both, Either, Gathered, Many, Optional,
 ghost use Rattle.grammars.specs.Grammar.{Three};
 ghost use Rattle.winnow_grammar.specs.Rule.{CallsRead};
 
+use crate::statements::{Statements, exact};
 use format_parts::marks::Marks;
 use std::alloc::Allocator;
 use stream_errors::fault::ParseFault;
@@ -54,7 +56,10 @@ where
         (Both pair (B.terms.claim (B.state mark)).grammar (G.terms.claim (G.state gap)).grammar)
         (from_to 1 None))) (I.view input.old) result (I.view input.new) }
 {
-    separated(alloc, 1.., terminated(element, gap), (mark, gap)).read(input)
+    match separated(alloc, 1.., terminated(element, gap), (mark, gap)).read(input) {
+        Ok(list) => Ok(exact(list)),
+        Err(error) => Err(error),
+    }
 }
 
 /// Parses the input between two others, or nothing between them.
@@ -124,7 +129,11 @@ where
         (marks.comma, marks.gap),
     );
     let all = terminated(elements, opt((marks.comma, marks.gap)));
-    read_or_none((marks.opening, marks.gap), all, marks.closing, input)
+    match read_or_none((marks.opening, marks.gap), all, marks.closing, input) {
+        Ok(Some(list)) => Ok(Some(exact(list))),
+        Ok(None) => Ok(None),
+        Err(error) => Err(error),
+    }
 }
 
 /// Parses values between marks, as [`read_list`]. A function parses a value by a rule, and
@@ -286,7 +295,8 @@ where
     delimited(gap, opt(terminated(item, gap)), opt(comment)).read(input)
 }
 
-/// Parses all of an input as lines, with a line ending between each two.
+/// Parses all of an input as lines, with a line ending between each two, and returns the statements
+/// of those that have one.
 pub fn parse_lines_of<I, E, O, N, A, P, R>(
     alloc: A,
     line: P,
@@ -299,18 +309,27 @@ where
     O: Drop,
     N: Drop,
     A: Allocator + Copy,
-    P: Parser<I, O, E> + Drop,
+    P: Parser<I, Option<O>, E> + Drop,
     R: Parser<I, N, E> + Drop,
     requires line { CanRead (P.can_parse line) (P.terms.claim (P.state line)) }
     requires newline { CanRead (R.can_parse newline) (R.terms.claim (R.state newline))
         × (R.terms.claim (R.state newline)).consumes }
     requires whole { I.supports_partial ≡ false }
     ensures { ReadsAll E.inner_kind
-        (Gathered (λ list os. list.items ≡ os)
+        (Gathered (λ list lines. list.items ≡ stated lines)
         (Parted (P.terms.claim (P.state line)).grammar (R.terms.claim (R.state newline)).grammar
         (from_to 1 None))) (I.view input).left.tokens result }
 {
-    separated(alloc, 1.., line, newline).read_all(input)
+    let mut lines: Separated<P, R, I, Option<O>, N, Statements<O, A>, E, A> = separated(
+        alloc,
+        1..,
+        line,
+        newline,
+    );
+    match lines.read_all(input) {
+        Ok(all) => Ok(exact(all.list)),
+        Err(fault) => Err(fault),
+    }
 }
 
 /// Reads one, and another after it or none, for all that they read.

@@ -1,8 +1,8 @@
-//! Where the lines of a document begin.
+//! Where the statements of a document begin.
 ghost use Rattle.std.specs.Prelude.{IfOk};
 ghost use Rattle.std.specs.Str.{chars};
-ghost use Rattle.format_toml.specs.Grammars.{Line, Newline};
-ghost use Rattle.format_toml.specs.Starts.{IsPast, IsStart, MatchesAtStart};
+ghost use Rattle.format_toml.specs.Grammars.{Newline};
+ghost use Rattle.format_toml.specs.Starts.{IsLine, IsPast, IsStart};
 
 use crate::lines::{AnyLine, read_line};
 use std::alloc::Allocator;
@@ -37,22 +37,22 @@ fn past<'i, O: Drop, P: Parser<&'i str, O, ErrMode<EmptyError>> + Drop>(
     }
 }
 
-/// Returns the text after a match of a parser. Fails if it does not match, or if memory allocation
-/// fails.
-fn skip<'i, O: Drop, P: Parser<&'i str, O, ErrMode<EmptyError>> + Drop>(
+/// Returns the output of a match of a parser, and the text after it. Fails if it does not match, or
+/// if memory allocation fails.
+fn split<'i, O: Drop, P: Parser<&'i str, O, ErrMode<EmptyError>> + Drop>(
     parser: P,
     text: &'i str,
-) -> Result<&'i str, ErrMode<EmptyError>>
+) -> Result<(O, &'i str), ErrMode<EmptyError>>
     requires { P.can_parse parser × (P.terms.claim (P.state parser)).premise
         × (P.terms.claim (P.state parser)).backtracks }
     ensures { IfOk result
-        (λ rest. MatchesAtStart (P.terms.claim (P.state parser)).grammar (chars text.now)
-        (chars rest.now)) }
+        (λ both. (P.terms.claim (P.state parser)).grammar (chars text.now) both.0
+        (chars both.1.now)) }
 {
     let mut parser = parser;
     let mut rest = text;
     match parser.read(&mut rest) {
-        Ok(_) => Ok(rest),
+        Ok(output) => Ok((output, rest)),
         Err(error) => Err(error),
     }
 }
@@ -64,35 +64,38 @@ fn past_newline<'i>(text: &'i str) -> Result<Option<&'i str>, ErrMode<EmptyError
     past(alt(('\n', preceded('\r', '\n'))), text)
 }
 
-/// Skips the part of a line that matches, and returns the remaining text. A part always matches, so
-/// the only error is out of memory.
-fn skip_line<'i, A: Allocator + Copy>(
+/// Returns whether the line at the start has a statement, and the text after the line. There always
+/// is a line, so the only error is out of memory.
+fn next_line<'i, A: Allocator + Copy>(
     alloc: A,
     level: usize,
     text: &'i str,
-) -> Result<&'i str, ErrMode<EmptyError>>
-    ensures { IfOk result (λ rest. MatchesAtStart (Line {A = A} level) (chars text.now)
-        (chars rest.now)) }
+) -> Result<(bool, &'i str), ErrMode<EmptyError>>
+    ensures { IfOk result (λ both. IsLine A level (chars text.now) both.0 (chars both.1.now)) }
 {
     let line = AnyLine(alloc, level).by(|input: &mut &str| read_line(alloc, level, input));
-    skip(line, text)
+    match split(line, text) {
+        Ok((statement, end)) => Ok((statement.is_some(), end)),
+        Err(error) => Err(error),
+    }
 }
 
-/// Returns the text after the first `number` lines with their line endings, or `None` if there are
-/// fewer. Fails with out of memory if an allocation fails, which no clause specifies. Each level
-/// uses some of the stack, as in [`read_value`](crate::values::read_value).
+/// Returns the text from the line on that has the statement with this number, counted from 0, or
+/// `None` if there are fewer statements. Fails with out of memory if an allocation fails, which no
+/// clause specifies. Each level uses some of the stack, as in
+/// [`read_value`](crate::values::read_value).
 ///
-/// An array and a string may continue over line endings, so such a line is not always one line of
-/// the text.
+/// A line that is blank or has only a comment has no statement. An array and a string may continue
+/// over line endings, so a line is not always one line of the text.
 ///
 /// ```
-/// use format_toml::starts::line_start;
+/// use format_toml::starts::statement_start;
 ///
-/// let text = "a = [\n]\nb = 1\n";
-/// assert!(rt; line_start(alloc, 1, text, 1) == Ok(Some("b = 1\n")));
-/// assert!(rt; line_start(alloc, 1, text, 3) == Ok(None));
+/// let text = "a = [\n]\n\n# of b\nb = 1\n";
+/// assert!(rt; statement_start(alloc, 1, text, 1) == Ok(Some("b = 1\n")));
+/// assert!(rt; statement_start(alloc, 1, text, 2) == Ok(None));
 /// ```
-pub fn line_start<'i, A: Allocator + Copy>(
+pub fn statement_start<'i, A: Allocator + Copy>(
     alloc: A,
     level: usize,
     text: &'i str,
@@ -101,12 +104,18 @@ pub fn line_start<'i, A: Allocator + Copy>(
     ensures { IfOk result (λ o. IsStart A level (chars text.now) number o) }
 {
     let mut left = text;
-    for _ in 0..number {
-        let end = skip_line(alloc, level, left)?;
+    let mut before = number;
+    loop {
+        let (has_statement, end) = next_line(alloc, level, left)?;
+        if has_statement && before == 0 {
+            return Ok(Some(left));
+        }
         match past_newline(end)? {
-            Some(behind) => left = behind,
             None => return Ok(None),
+            Some(behind) => left = behind,
+        }
+        if has_statement {
+            before -= 1;
         }
     }
-    Ok(Some(left))
 }

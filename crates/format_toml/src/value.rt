@@ -1,7 +1,7 @@
-//! The statements of a document, line by line.
+//! The statements of a document.
 
 use format_toml_tree::value::Item;
 use std::alloc::Allocator;
 
-/// The statement of each line, in order: `None` if the line is blank, or has only a comment.
-pub type Document<A> = Vec<Option<Item<A>>, A>;
+/// The statements of the lines, in order. A line that is blank or has only a comment has none.
+pub type Document<A> = Vec<Item<A>, A>;

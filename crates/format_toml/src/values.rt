@@ -14,6 +14,7 @@ use crate::gaps::{AnyGap, read_gap};
 use crate::keys::{Keys, read_key};
 use crate::parts::{read_list_of, read_pair_of};
 use crate::scalars::read_scalar;
+use crate::statements::exact;
 use crate::strings::begins_with;
 use format_parts::marks::{Marks, read_array_of};
 use format_toml_tree::value::{Key, Value};
@@ -161,7 +162,7 @@ fn read_inline<'i, A: Allocator + Copy>(
         gap: Space0,
     };
     match read_array_of(alloc, Entries(alloc, below), entry, marks, input) {
-        Ok(pairs) => Ok(Value::Table(pairs)),
+        Ok(pairs) => Ok(Value::Table(exact(pairs))),
         Err(error) => Err(error),
     }
 }

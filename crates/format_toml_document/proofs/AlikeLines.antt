@@ -1,5 +1,6 @@
 -- Values and lines of the same text are equivalent, so a text of TOML is one list of lines.
-use Rattle.std.specs.Prelude.{◌≡◌, ◌⊎◌, ℕ, ⊤, zero, suc, Bool, true, false, List, [], ◌++◌}
+use Rattle.std.specs.Prelude.{◌≡◌, ◌⊎◌, ℕ, ⊤, zero, suc, Bool, true, false, List, [], ◌∷◌}
+use Rattle.std.specs.Prelude.{◌++◌}
 use Rattle.std.specs.Prelude.{Option, Some, None}
 use Rattle.std.specs.declared.vec.Vec.{Vec}
 use Rattle.std.proofs.Common.{refl, sym, ap, subst, subst₂, inl, inr, ◌∙◌}
@@ -9,6 +10,7 @@ use Rattle.format_toml.proofs.LineTexts.{document_of}
 use Rattle.format_toml.specs.Grammars.{AnyBoolean, AnyItem, AnyValue, Array, Document}
 use Rattle.format_toml.specs.Grammars.{Header, Inline, IsPlain, Line, Mark, Pair}
 use Rattle.format_toml.specs.Grammars.{Plain, Scalar, Table}
+use Rattle.format_toml.specs.Statements.{stated}
 use Rattle.format_toml.specs.Toml.{DocumentText, IsArray, IsBoolean, IsEntry, IsInline, IsTable}
 use Rattle.format_toml.specs.Toml.{IsTables, IsText, PlainText, false_word, true_word}
 use Rattle.format_toml.specs.Unique.{gap_unique, key_unique, line_unique}
@@ -19,7 +21,7 @@ use Rattle.format_toml_document.proofs.AlikePlain.{plain_alike}
 use Rattle.format_toml_document.proofs.AlikeStrings.{any_basic_agrees, any_literal_agrees}
 use Rattle.format_toml_document.proofs.AlikeStrings.{key_agrees}
 use Rattle.format_toml_document.specs.Alike.{AreAlike, AreAlikeBy, AreAlikeEntries, AreAlikeItems}
-use Rattle.format_toml_document.specs.Alike.{AreAlikeKeys, AreAlikeLines, AreAlikeSingles}
+use Rattle.format_toml_document.specs.Alike.{AreAlikeKeys, AreAlikeSingles}
 use Rattle.format_toml_tree.specs.declared.value.Item.{Item}
 use Rattle.format_toml_tree.specs.declared.value.Value.{Value}
 use Rattle.format_toml_tree.specs.declared.value.Value as values
@@ -28,7 +30,7 @@ use Rattle.grammars.specs.Agreed.{latter_agrees, means_agree, optional_agrees, p
 use Rattle.grammars.specs.Agreed.{sides_agree}
 use Rattle.grammars.specs.Pairwise.{ArePairwise}
 use Rattle.grammars.specs.Strings.{taken_agrees}
-use Rattle.grammars.specs.Grammar.{Grammar, IsUnique}
+use Rattle.grammars.specs.Grammar.{Gathered, Grammar, IsUnique}
 use Rattle.grammars.specs.Grammar.Meaning.{Meaning}
 use Rattle.grammars.specs.Grammar.Sequences.{three_unique}
 use Rattle.grammars.specs.Grammar.Unique.{both_unique}
@@ -139,20 +141,45 @@ module _ {A : Type 0} where
       (means_agree IsEntry (pair_agrees (AreAlike level) (value_unique level) (value_agrees level))
       (λ e f i j are is was. inr (inr (e.0, f.0, e.1, f.1, is, was, are))))
 
-  line_agrees : (level : ℕ) → Agrees (AreAlikeLines {A = A} level) (Line level)
+  -- equivalent lines: without a statement, or with equivalent ones
+  abbrev AreAlikeLines : ℕ → Option (Item A) → Option (Item A) → Type 0
+  AreAlikeLines level None None = ⊤
+  AreAlikeLines level None (Some j) = ⊥
+  AreAlikeLines level (Some i) None = ⊥
+  AreAlikeLines level (Some i) (Some j) = AreAlikeItems level i j
+
+  line_agrees : (level : ℕ) → Agrees (AreAlikeLines level) (Line level)
   line_agrees level =
       between_agrees _ (run_unique IsSpace 0)
       (optional_agrees {like = AreAlikeLines level} tt (λ i j are. are)
       (former_agrees _ (item_agrees level)))
 
-  document_agrees : (level : ℕ) → Agrees (λ (lines other : Vec (Option (Item A)) A).
-      ArePairwise (AreAlikeLines level) lines.items other.items) (Document level)
-  document_agrees level =
-      gathered_agree (parted_agree 1 (line_unique level) newline_unique (line_agrees level))
+  -- the statements of equivalent lines
+  stated_alike : (level : ℕ) (lines others : List (Option (Item A)))
+      → ArePairwise (AreAlikeLines level) lines others
+      → ArePairwise (AreAlikeItems level) (stated lines) (stated others)
+  stated_alike level [] [] are = tt
+  stated_alike level [] (o ∷ others) are = absurd are
+  stated_alike level (o ∷ lines) [] are = absurd are
+  stated_alike level (None ∷ lines) (None ∷ others) are = stated_alike level lines others are.1
+  stated_alike level (None ∷ lines) (Some j ∷ others) are = absurd are.0
+  stated_alike level (Some i ∷ lines) (None ∷ others) are = absurd are.0
+  stated_alike level (Some i ∷ lines) (Some j ∷ others) are =
+      (are.0, stated_alike level lines others are.1)
 
-  pub texts_alike : (level : ℕ) (lines other : Vec (Option (Item A)) A) (text : List ℕ)
+  document_agrees : (level : ℕ) → Agrees (λ (list other : Vec (Item A) A).
+      ArePairwise (AreAlikeItems level) list.items other.items) (Document level)
+  unfolding Gathered
+  document_agrees level = record {
+    one = λ tokens list other rest end (lines, e, x) (others, f, y).
+        let agree = parted_agree 1 (line_unique level) newline_unique (line_agrees level) in
+        subst₂ (ArePairwise (AreAlikeItems level)) (sym e) (sym f)
+        (stated_alike level lines others (agree.one tokens lines others rest end x y));
+  }
+
+  pub texts_alike : (level : ℕ) (lines other : Vec (Item A) A) (text : List ℕ)
       → DocumentText level lines text → DocumentText level other text
-      → ArePairwise (AreAlikeLines level) lines.items other.items
+      → ArePairwise (AreAlikeItems level) lines.items other.items
   texts_alike level lines other text a b =
       (document_agrees level).one (text ++ []) lines other [] []
       ((document_of level).back lines text [] a refl)

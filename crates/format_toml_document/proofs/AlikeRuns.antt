@@ -1,9 +1,8 @@
 -- Proofs that equivalent lines give equivalent trees, or are both rejected.
-use Rattle.std.specs.Prelude.{ℕ, List, [], ◌∷◌, Option, Result, Ok, Err}
+use Rattle.std.specs.Prelude.{ℕ, List, [], ◌∷◌, Result, Ok, Err}
 use Rattle.std.proofs.Common.{refl, sym, ap, subst, subst₂, inl, inr}
 use Rattle.grammars.specs.Pairwise.{ArePairwise}
 use Rattle.format_toml_document.specs.Alike.{AreAlikeEntries, AreAlikeItems, AreAlikeKeys}
-use Rattle.format_toml_document.specs.Alike.{AreAlikeLines}
 use Rattle.format_toml_document.specs.AlikeTrees.{AreAlikeNodes, AreAlikeTrees, AreAlikeValues}
 use Rattle.format_toml_document.proofs.AlikeNodes.{AreAlikeResults, AreAlikeStates}
 use Rattle.format_toml_document.proofs.AlikeNodes.{has_value_alike, has_value_back, key_alike}
@@ -207,43 +206,36 @@ module _ {A : Type 0} where
   line_alike level (runs.too_deep a f not) (runs.too_deep b g never) are alike = refl
 
   pub gives_alike : (level : ℕ) {depth : ℕ} {s t : State A} {k : ℕ}
-      {lines others : List (Option (Item A))}
+      {lines others : List (Item A)}
       {r x : Result (Tree A) (ℕ × Reason)} → Gives depth s k lines r → Gives depth t k others x
-      → AreAlikeStates s t → ArePairwise (AreAlikeLines level) lines others
+      → AreAlikeStates s t → ArePairwise (AreAlikeItems level) lines others
       → AreAlikeResults AreAlikeTrees r x
   gives_alike level runs.ended runs.ended are alike = are.0
-  gives_alike level runs.ended (runs.blank g) are alike = absurd alike
   gives_alike level runs.ended (runs.accepted g others) are alike = absurd alike
   gives_alike level runs.ended (runs.refused g) are alike = absurd alike
-  gives_alike level (runs.blank f) runs.ended are alike = absurd alike
-  gives_alike level (runs.blank f) (runs.blank g) are alike = gives_alike level f g are alike.1
-  gives_alike level (runs.blank f) (runs.accepted g others) are alike = absurd alike.0
-  gives_alike level (runs.blank f) (runs.refused g) are alike = absurd alike.0
   gives_alike level (runs.accepted f more) runs.ended are alike = absurd alike
-  gives_alike level (runs.accepted f more) (runs.blank g) are alike = absurd alike.0
   gives_alike level (runs.accepted f more) (runs.accepted g others) are alike =
       gives_alike level more others (line_alike level f g are alike.0) alike.1
   gives_alike level (runs.accepted f more) (runs.refused g) are alike =
       absurd (line_alike level f g are alike.0)
   gives_alike level (runs.refused f) runs.ended are alike = absurd alike
-  gives_alike level (runs.refused f) (runs.blank g) are alike = absurd alike.0
   gives_alike level (runs.refused f) (runs.accepted g others) are alike =
       absurd (line_alike level f g are alike.0)
   gives_alike level {k = k} (runs.refused f) (runs.refused g) are alike =
       ap (λ why. (k, why)) (line_alike level f g are alike.0)
 
   -- lines that have a tree are not rejected
-  pub tree_or_refusal : {P : Type 0} (level : ℕ) {depth : ℕ} {lines others : List (Option (Item A))}
+  pub tree_or_refusal : {P : Type 0} (level : ℕ) {depth : ℕ} {lines others : List (Item A)}
       {tree : Tree A} {refusal : ℕ × Reason}
       → Gives depth (empty, []) 0 lines (Ok tree) → Gives depth (empty, []) 0 others (Err refusal)
-      → ArePairwise (AreAlikeLines level) lines others → P
+      → ArePairwise (AreAlikeItems level) lines others → P
   tree_or_refusal level f g alike = absurd (gives_alike level f g ((λ p. inl refl), refl) alike)
 
   -- the trees of equivalent lines hold equivalent values in their slots
-  pub held_alike : (level : ℕ) {depth : ℕ} {lines others : List (Option (Item A))}
+  pub held_alike : (level : ℕ) {depth : ℕ} {lines others : List (Item A)}
       (slots below : List (Slot A)) {tree other given also : Tree A}
       → Gives depth (empty, []) 0 lines (Ok tree) → Gives depth (empty, []) 0 others (Ok other)
-      → ArePairwise (AreAlikeLines level) lines others
+      → ArePairwise (AreAlikeItems level) lines others
       → HoldsTree slots tree → HoldsTree below other → HoldsTree slots given
       → HoldsTree below also → AreAlikeTrees given also
   held_alike level slots below {tree} {other} {given} {also} f g alike is at has holds p =

@@ -12,7 +12,8 @@ use Rattle.format_parts.specs.Words.{for_front, former, latter, pair}
 use Rattle.format_toml.specs.Toml.{ArrayText, CommentText, GapText, Gapped, InlineText, IsArray}
 use Rattle.format_toml.specs.Toml.{IsBoolean, Spaced, IsInline, IsShown, IsText, PairText, IsBare}
 use Rattle.format_toml.specs.Toml.{ScalarText, ValueText, WideMarkText, false_word, true_word}
-use Rattle.format_toml.specs.Toml.{DocumentText, IsEntry, IsTable, IsTables, ItemText, LineText}
+use Rattle.format_toml.specs.Toml.{DocumentText, HasStatements, IsEntry, IsTable, IsTables}
+use Rattle.format_toml.specs.Toml.{ItemText, LineText}
 use Rattle.format_toml.specs.Toml.{TableText}
 use Rattle.format_toml_errors.specs.Accepted.{by, viable_front}
 use Rattle.format_toml_errors.specs.Stop.{At, IsAccepted, MayBegin}
@@ -262,16 +263,16 @@ module _ (level : ℕ) where
       (left_out (λ l x. (x.0, x.1))
       (comment_front level [] gaps.Line (λ l x. x.2) (λ l x. (x, x)))))
 
-  pub document_accepted : {A : Type 0} (lines : Vec (Option (Item A)) A) (tokens : List ℕ)
+  pub document_accepted : {A : Type 0} (lines : Vec (Item A) A) (tokens : List ℕ)
       → DocumentText level lines tokens → IsAccepted level tokens
   document_accepted lines tokens text =
-      let front = in_list_front (some_front {item = λ l. At level modes.Line [] l} {after = Ending}
-      (newline_front (λ l x. (x, x, x)) (λ l x. (x, x, x))) line_front line_front) in
+      let front = gathered_front HasStatements
+      (some_front {item = λ l. At level modes.Line [] l} {after = Ending} (newline_front (λ l x. (x, x, x)) (λ l x. (x, x, x))) line_front line_front) in
       subst (λ l. At level modes.Line [] l) (append-nil tokens)
       (front.makes lines tokens [] text (refl, refl, refl))
 
   pub none_begins : {A : Type 0} (front more : List ℕ) → (MayBegin level front → ⊥)
-      → (lines : Vec (Option (Item A)) A) → DocumentText level lines (front ++ more) → ⊥
+      → (lines : Vec (Item A) A) → DocumentText level lines (front ++ more) → ⊥
   none_begins front more not lines text =
       let is = document_accepted lines (front ++ more) text in
       not (viable_front level front more modes.Line [] is)

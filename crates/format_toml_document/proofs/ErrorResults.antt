@@ -12,7 +12,7 @@ use Rattle.std.proofs.lemmas.Str.{IsCharBoundary-at_seam, IsUtf8-take, encodes-a
 use Rattle.std.proofs.lemmas.Str.{encodes-chars, scalars-chars}
 use Rattle.format_parts.specs.Location.{IsLocation}
 use Rattle.format_parts.specs.declared.location.Location.{Location}
-use Rattle.format_toml.specs.Starts.{IsStart, line_end}
+use Rattle.format_toml.specs.Starts.{IsStart, start_end}
 use Rattle.format_toml.specs.Toml.{DocumentText}
 use Rattle.format_toml_document.specs.Fault.{IsAfter, IsDocument, IsErrorOf, IsOpening}
 use Rattle.format_toml_document.specs.Fault.{IsRefusal, IsUnexpected, NoneBegins, OneBegins}
@@ -127,10 +127,10 @@ module _ (A : Type 0) (level : ℕ) (text : List ℕ) where
       → ((front : List ℕ) → chars text ≡ front ++ chars rest.now → IsAfter text rest.now at)
       → IsRefusal A level text (built.Invalid n why) (faults.Invalid at why)
   refusal_told n why rest at start after =
-      let (front, e) = line_end A level n (chars text) (chars rest.now) start in
+      let (front, e) = start_end A level start in
       (n, refl, rest.now, start, after front e)
 
-  pub lines_told : (lines : Vec (Option (Item A)) A) (fault : TreeError) (told : TomlError)
+  pub lines_told : (lines : Vec (Item A) A) (fault : TreeError) (told : TomlError)
       → DocumentText level lines (chars text)
       → ((n : ℕ) (why : Reason) → fault ≡ built.Invalid n why
       → Gives level (empty, []) 0 lines.items (Err (n, why)))

@@ -1,6 +1,6 @@
 -- Texts that begin with an encoding: what is known of the rest is known of the whole.
 use Rattle.std.specs.Prelude.{◌≡◌, ◌≤◌, ◌<◌, ◌+◌, ◌*◌, ◌^◌, ◌==◌, ◌&&◌, ⊤, ℕ, Bool, []}
-use Rattle.std.specs.Prelude.{true, false, List, ◌∷◌, ◌++◌, length, Some, None}
+use Rattle.std.specs.Prelude.{true, false, List, ◌∷◌, ◌++◌, length, Option, Some, None}
 use Rattle.std.specs.Char.{IsScalar, len_utf8}
 use Rattle.std.specs.Str.{all_scalars, encode_utf8_all}
 use Rattle.std.specs.declared.string.String.{String}
@@ -17,6 +17,7 @@ use Rattle.grammars.specs.Texts.{AtLeast, BothText, EachText, EitherText, Gather
 use Rattle.grammars.specs.Texts.{MadeText, Members, OptionalText, PartedText, Spelled, Text}
 use Rattle.grammars.specs.Texts.{TokenOfText}
 use Rattle.format_parts.specs.Words.{For, One, Run, Slice}
+use Rattle.format_toml.specs.Statements.{stated}
 use Rattle.stream_sets.specs.Accumulator.Holds.{HasCharacters}
 use Rattle.streams.specs.Text.{length_encodes, text_reading, width}
 
@@ -264,6 +265,23 @@ listed alloc {row} {l = l} fits counts t =
     let front = (fit_parts l xs ys e fits).0 in
     let (list, is) = list_for alloc os (omega (arith, counts.few os xs x, front.few)) in
     to list xs ys (subst (λ os. row os xs) (sym is) x) e k
+
+-- the statements of lines are at most as many
+stated_few : {X : Type 0} (lines : List (Option X)) → length (stated lines) ≤ length lines
+stated_few [] = omega arith
+stated_few (None ∷ lines) = let few = stated_few lines in omega (arith, few)
+stated_few (Some x ∷ lines) = let few = stated_few lines in omega (arith, few)
+
+pub stated_listed : {X A : Type 0} (alloc : A) {row : Text ℕ (List (Option X))}
+    {K : List ℕ → Type 0} {l : List ℕ} → Fits l → Counts row → Then row K l
+    → Then (GatheredText (λ (list : Vec X A) lines. list.items ≡ stated lines) row) K l
+unfolding GatheredText
+stated_listed alloc {l = l} fits counts t =
+    let (lines, xs, ys, x, e, k) = parts t in
+    let front = (fit_parts l xs ys e fits).0 in
+    let (list, is) = list_for alloc (stated lines)
+    (omega (arith, stated_few lines, counts.few lines xs x, front.few)) in
+    to list xs ys (lines, is, x) e k
 
 pub record Long {D : Type 0} (separator : Text ℕ D) : Type 0 where
   pub some : (d : D) (xs : List ℕ) → separator d xs → 1 ≤ length xs

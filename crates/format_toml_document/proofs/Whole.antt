@@ -5,7 +5,6 @@ use Rattle.std.specs.Str.{all_scalars}
 use Rattle.std.specs.declared.vec.Vec.{Vec}
 use Rattle.std.proofs.Common.{inr, refl, sym, ap, subst, inl, ◌∙◌}
 use Rattle.std.proofs.lemmas.List.{append-nil}
-use Rattle.grammars.specs.Texts.{InList}
 use Rattle.format_toml.specs.Toml.{DocumentText}
 use Rattle.format_toml_errors.specs.Accepted.{true_not_false, both_ways}
 use Rattle.format_toml_errors.specs.Stop.{At, IsAccepted, IsNextStep, is_end, ends_line}
@@ -27,7 +26,8 @@ use Rattle.format_toml_document.proofs.LongBacks.{long_back, long_blank_back, lo
 use Rattle.format_toml_document.proofs.LongBacks.{long_return_back, quotes_back}
 use Rattle.format_toml_document.proofs.Parts.{lines_made, newline_long}
 use Rattle.format_toml_document.proofs.Rests.{After, Rest}
-use Rattle.format_toml_document.proofs.Thens.{Fits, cons, fit_parts, least_counts, listed, nil, to}
+use Rattle.format_toml_document.proofs.Thens.{Fits, cons, fit_parts, least_counts, nil, to}
+use Rattle.format_toml_document.proofs.Thens.{stated_listed}
 use Rattle.format_toml_document.proofs.Thens.{none, parts, run_more, run_none, token, members_none}
 use Rattle.format_toml_document.proofs.Values.{after_back, closing_back, comment_back, element_back}
 use Rattle.format_toml_document.proofs.Values.{figure_back, first_back, header_back, line_back}
@@ -192,12 +192,11 @@ module _ {A : Type 0} (alloc : A) (level : ℕ) where
       (led l (λ m o y. rest l less m o y) held (next_step mode (last_open held) c) x)
 
   pub only_documents : (text : List ℕ) → all_scalars text ≡ true → length text < 2 ^ 60
-      → IsAccepted level text → (lines : Vec (Option (Item A)) A) × DocumentText level lines text
-  unfolding InList
+      → IsAccepted level text → (lines : Vec (Item A) A) × DocumentText level lines text
   only_documents text scalars few x =
       let fits : Fits text = record { scalars = scalars; few = few } in
       let found = lines_made {A = A} level fits (rest text fits modes.Line [] x) in
-      let (list, xs, ys, is, e, k) = parts (listed alloc fits (least_counts _ newline_long) found)
-      in
+      let (list, xs, ys, is, e, k) =
+      parts (stated_listed alloc fits (least_counts _ newline_long) found) in
       let P : List ℕ → Type 0 = λ l. DocumentText level list l in
       (list, subst P (sym (e ∙ ap (λ m. xs ++ m) k ∙ append-nil xs)) is)

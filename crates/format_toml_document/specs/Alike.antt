@@ -1,6 +1,6 @@
 -- When keys, values and lines of TOML are equivalent: they differ at most in where their strings
 -- and lists lie.
-use Rattle.std.specs.Prelude.{◌≡◌, ◌⊎◌, ⊤, ℕ, zero, suc, Option, Some, None}
+use Rattle.std.specs.Prelude.{◌≡◌, ◌⊎◌, ℕ, zero, suc}
 use Rattle.std.specs.declared.vec.Vec.{Vec}
 use Rattle.std.specs.declared.string.String.{String}
 use Rattle.grammars.specs.Pairwise.{ArePairwise, HaveSameBytes}
@@ -77,10 +77,3 @@ module _ {A : Type 0} where
       × AreAlikeKeys k l)
       ⊎ ((k : Key A) × (l : Key A) × (v : Value A) × (w : Value A) × (i ≡ items.Entry k v)
       × (j ≡ items.Entry l w) × (AreAlikeKeys k l × AreAlike level v w)))
-
-  -- equivalent lines: blank ones, or those of equivalent items
-  abbrev pub AreAlikeLines : ℕ → Option (Item A) → Option (Item A) → Type 0
-  AreAlikeLines level None None = ⊤
-  AreAlikeLines level None (Some j) = ⊥
-  AreAlikeLines level (Some i) None = ⊥
-  AreAlikeLines level (Some i) (Some j) = AreAlikeItems level i j

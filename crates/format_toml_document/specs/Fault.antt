@@ -5,7 +5,7 @@ use Rattle.std.specs.Str.{IsUtf8, chars}
 use Rattle.std.specs.Str.Lossy.{utf8_valid_len}
 use Rattle.std.specs.declared.vec.Vec.{Vec}
 use Rattle.format_parts.specs.declared.location.Location.{Location}
-use Rattle.format_toml.specs.Starts.{LinesBefore}
+use Rattle.format_toml.specs.Starts.{StatementStarts}
 use Rattle.format_toml.specs.Toml.{DocumentText}
 use Rattle.format_toml_document.specs.declared.fault.TomlError.{TomlError}
 use Rattle.format_toml_document.specs.declared.fault.TomlError.TheVariants as faults
@@ -52,13 +52,13 @@ IsOpening text rest None = IsUnclosed (chars text) (chars rest) None
 abbrev pub NoneBegins : Type 0 → ℕ → List ℕ → List ℕ → Type 0
 NoneBegins A level front [] = ⊤
 NoneBegins A level front (c ∷ rest) =
-    (more : List ℕ) (lines : Vec (Option (Item A)) A) → DocumentText level lines (front ++ c ∷ more)
+    (more : List ℕ) (lines : Vec (Item A) A) → DocumentText level lines (front ++ c ∷ more)
     → ⊥
 
 -- `OneBegins A level front`: some document of the level begins with `front`.
 abbrev pub OneBegins : Type 0 → ℕ → List ℕ → Type 0
 OneBegins A level front =
-    (more : List ℕ) × (lines : Vec (Option (Item A)) A) × DocumentText level lines (front ++ more)
+    (more : List ℕ) × (lines : Vec (Item A) A) × DocumentText level lines (front ++ more)
 
 -- The first character with which no document of the level continues, or the end of the text if all
 -- are a prefix of one; what is expected there, and what is not closed. No document begins with the
@@ -75,19 +75,19 @@ IsUnexpected A level text faults.OutOfMemory = ⊤
 IsUnexpected A level text other = ⊥
 
 module _ (A : Type 0) (level : ℕ) (text : List ℕ) where
-  -- The text is these lines, which give a tree, and places hold it. Its tables and arrays are
-  -- nested at most `level` deep.
+  -- The text is lines of these statements, which give a tree, and places hold it. Its tables and
+  -- arrays are nested at most `level` deep.
   abbrev pub IsDocument : Tree A → Type 0
   IsDocument tree =
-      (lines : Vec (Option (Item A)) A) × DocumentText level lines (chars text)
+      (lines : Vec (Item A) A) × DocumentText level lines (chars text)
       × ((given : Given A) × Gives level (empty, []) 0 lines.items (Ok given)
       × HoldsTree tree.slots.items given × IsWithin level given)
 
-  -- The rejection of a line, at the position where it starts.
+  -- The rejection of a statement, at the position where its line starts.
   abbrev pub IsRefusal : TreeError → TomlError → Type 0
   IsRefusal fault (faults.Invalid at why) =
       (n : ℕ) × (fault ≡ built.Invalid n why) × (rest : List ℕ)
-      × LinesBefore A level n (chars text) (chars rest) × IsAfter text rest at
+      × StatementStarts A level n (chars text) (chars rest) × IsAfter text rest at
   IsRefusal fault faults.OutOfMemory = ⊤
   IsRefusal fault other = ⊥
 
@@ -96,12 +96,12 @@ module _ (A : Type 0) (level : ℕ) (text : List ℕ) where
   -- standard rejects, and why. Or it is not UTF-8: its longest prefix that is.
   abbrev pub IsErrorOf : TomlError → Type 0
   IsErrorOf (faults.Unexpected at expected unclosed) =
-      ((lines : Vec (Option (Item A)) A) → DocumentText level lines (chars text) → ⊥)
+      ((lines : Vec (Item A) A) → DocumentText level lines (chars text) → ⊥)
       × IsUnexpected A level text (faults.Unexpected at expected unclosed)
   IsErrorOf (faults.Invalid at why) =
-      (lines : Vec (Option (Item A)) A) × DocumentText level lines (chars text)
+      (lines : Vec (Item A) A) × DocumentText level lines (chars text)
       × ((n : ℕ) × Gives level (empty, []) 0 lines.items (Err (n, why))
-      × ((rest : List ℕ) × LinesBefore A level n (chars text) (chars rest)
+      × ((rest : List ℕ) × StatementStarts A level n (chars text) (chars rest)
       × IsAfter text rest at))
   IsErrorOf (faults.NotUtf8 at) = IsBroken text (faults.NotUtf8 at)
   IsErrorOf faults.OutOfMemory = ⊤

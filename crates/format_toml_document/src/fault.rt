@@ -6,7 +6,7 @@ ghost use Rattle.format_toml_document.specs.Fault.{IsUnexpected, location_of};
 ghost use Rattle.format_toml_errors.specs.Unclosed.{IsUnclosed, text_of};
 
 use format_parts::location::Location;
-use format_toml::starts::line_start;
+use format_toml::starts::statement_start;
 use format_toml_errors::expected::Expected;
 use format_toml_errors::walk::{Stop, first_stop};
 use format_toml_tree::build;
@@ -202,10 +202,10 @@ pub(crate) fn fault_of_build<A: Allocator + Copy>(
 ) -> TomlError
     ensures { IsRefusal A level text.now fault result }
 {
-    let build::TreeError::Invalid { line, why } = fault else {
+    let build::TreeError::Invalid { statement, why } = fault else {
         return TomlError::OutOfMemory;
     };
-    match line_start(alloc, level, text, line) {
+    match statement_start(alloc, level, text, statement) {
         Ok(Some(rest)) => TomlError::Invalid {
             at: located(text, rest),
             why,

@@ -1,6 +1,6 @@
 //! Laws that follow from the contracts.
 ghost use Rattle.format_toml.specs.Toml.{DocumentText};
-ghost use Rattle.format_toml_document.specs.Alike.{AreAlikeLines};
+ghost use Rattle.format_toml_document.specs.Alike.{AreAlikeItems};
 ghost use Rattle.format_toml_document.specs.AlikeTrees.{AreAlikeTrees};
 ghost use Rattle.format_toml_document.specs.Fault.{IsDocument, IsErrorOf, OneBegins};
 ghost use Rattle.format_toml_document.specs.declared.fault.TomlError.{TomlError};
@@ -37,8 +37,8 @@ pub fn a_document_is_lines_of_text<A: Allocator>()
         → fault ≡ faults.OutOfMemory }
 {}
 
-/// A text is one list of lines, whatever allocates them: the lines of the same text are pairwise
-/// equivalent. They differ at most in where their strings and lists lie.
+/// A text is one list of lines, whatever allocates them: the statements of the same text are
+/// pairwise equivalent. They differ at most in where their strings and lists lie.
 ///
 /// ```
 /// use format_toml_document::laws::a_text_is_one_list_of_lines;
@@ -49,9 +49,9 @@ pub fn a_document_is_lines_of_text<A: Allocator>()
 /// }
 /// ```
 pub fn a_text_is_one_list_of_lines<A: Allocator>()
-    ensures { (level : ℕ) (lines other : Vec (Option (Item A)) A) (text : List ℕ)
+    ensures { (level : ℕ) (lines other : Vec (Item A) A) (text : List ℕ)
         → DocumentText level lines text → DocumentText level other text
-        → ArePairwise (AreAlikeLines level) lines.items other.items }
+        → ArePairwise (AreAlikeItems level) lines.items other.items }
 {}
 
 /// Bytes have one tree: two trees of the same bytes have equivalent contents at each path. They
@@ -83,7 +83,7 @@ pub fn a_text_has_one_tree<A: Allocator>()
 /// }
 /// ```
 pub fn lines_give_one_tree_or_one_refusal<A: Allocator>()
-    ensures { (level : ℕ) (lines : List (Option (Item A)))
+    ensures { (level : ℕ) (lines : List (Item A))
         (one other : Result (Given A) (ℕ × Reason)) → Gives level (empty, []) 0 lines one
         → Gives level (empty, []) 0 lines other → one ≡ other }
 {}
@@ -100,7 +100,7 @@ pub fn lines_give_one_tree_or_one_refusal<A: Allocator>()
 /// }
 /// ```
 pub fn the_walk_accepts_documents<A: Allocator>()
-    ensures { (level : ℕ) (lines : Vec (Option (Item A)) A) (text : List ℕ)
+    ensures { (level : ℕ) (lines : Vec (Item A) A) (text : List ℕ)
         → DocumentText level lines text → IsAccepted level text }
 {}
 
@@ -119,7 +119,7 @@ pub fn the_walk_accepts_documents<A: Allocator>()
 pub fn the_walk_accepts_only_documents<A: Allocator>()
     ensures { (level : ℕ) (alloc : A) (text : List ℕ) → all_scalars text ≡ true
         → length text < 2 ^ 60 → IsAccepted level text
-        → (lines : Vec (Option (Item A)) A) × DocumentText level lines text }
+        → (lines : Vec (Item A) A) × DocumentText level lines text }
 {}
 
 /// Characters that the walk of [`first_stop`](format_toml_errors::walk::first_stop) accepts at a
@@ -160,5 +160,5 @@ pub fn a_document_begins_with_accepted_characters<A: Allocator>()
 /// ```
 pub fn no_document_begins_otherwise<A: Allocator>()
     ensures { (level : ℕ) (front more : List ℕ) → (MayBegin level front → ⊥)
-        → (lines : Vec (Option (Item A)) A) → DocumentText level lines (front ++ more) → ⊥ }
+        → (lines : Vec (Item A) A) → DocumentText level lines (front ++ more) → ⊥ }
 {}

@@ -12,7 +12,8 @@ use format_toml_tree::value::Item;
 use std::alloc::Allocator;
 use std::str;
 
-/// A place for what the lines of a text say, from which its [`Tree`] borrows.
+/// A place for the statements of the lines of a text, from which their [`Tree`] borrows. Lines that
+/// are blank or have only a comment take no memory.
 ///
 /// ```
 /// use format_toml_document::{Document, from_text};
@@ -23,7 +24,7 @@ use std::str;
 /// ```
 #[derive(Drop)]
 pub struct Document<A: Allocator> {
-    lines: Vec<Option<Item<A>>, A>,
+    lines: Vec<Item<A>, A>,
 }
 
 impl<A: Allocator + Copy> Document<A> {

@@ -80,7 +80,7 @@ pub fn size_of<'t, A: Allocator + Copy>(tree: &Tree<'t, A>) -> Size
 /// if let Ok(name) = String::from_str(alloc, "port") {
 ///     let _ = names.push(name);
 /// }
-/// let lines = [Some(Item::Entry(Key { names }, Value::Integer(80)))];
+/// let lines = [Item::Entry(Key { names }, Value::Integer(80))];
 /// let mut text = [0; 4];
 /// let mut nodes = [NO_NODE; 2];
 /// if let Ok(tree) = build(alloc, 0, &lines) {

@@ -1,5 +1,5 @@
 -- The slots of the tree of the first lines are the first slots.
-use Rattle.std.specs.Prelude.{◌≡◌, ℕ, ◌<◌, ◌≤◌, List, [], ◌∷◌, ◌++◌, Option, Ok, length}
+use Rattle.std.specs.Prelude.{◌≡◌, ℕ, ◌<◌, ◌≤◌, List, [], ◌∷◌, ◌++◌, Ok, length}
 use Rattle.std.specs.Prelude.{slice_get}
 use Rattle.std.proofs.Common.{sym, ap, subst, inl, inr, ◌∙◌, arith}
 use Rattle.std.proofs.lemmas.Bool.{cases_lt}
@@ -24,8 +24,8 @@ module _ {A : Type 0} where
     pub there : (j : ℕ) → j < most → tree (path j) ≡ nothing → ⊥
 
   -- some first lines, at least the first `k`
-  pub record IsFront (front lines : List (Option (Item A))) (k : ℕ) : Type 0 where
-    pub rest : List (Option (Item A))
+  pub record IsFront (front lines : List (Item A)) (k : ℕ) : Type 0 where
+    pub rest : List (Item A)
     pub are : lines ≡ front ++ rest
     pub least : k ≤ length front
 
@@ -56,9 +56,9 @@ module _ {A : Type 0} where
         (ap tree (sym (goes.kept i (omega (arith, less, is.within)))) ∙ none);
   }
 
-  module _ (level : ℕ) (lines : List (Option (Item A))) {slots : List (Slot A)} {tree : Tree A}
+  module _ (level : ℕ) (lines : List (Item A)) {slots : List (Slot A)} {tree : Tree A}
       {path : ℕ → Path} (holds : Holds slots tree path)
-      (earlier : (front : List (Option (Item A))) (t : Tree A) → IsFront front lines 0
+      (earlier : (front : List (Item A)) (t : Tree A) → IsFront front lines 0
       → Gives level (empty, []) 0 front (Ok t) → IsEarlier path (length slots) t) where
     before : (a b : ℕ) → a < length slots → b < length slots
         → ComesBefore level lines (path a) (path b) → a < b

@@ -1,6 +1,6 @@
 -- Lines that are added to a tree, in sequence.
 use Rattle.std.specs.Prelude.{◌≡◌, ℕ, zero, suc, ◌+◌, ◌<◌, ◌≤◌, List, [], ◌∷◌, length, drop, Err}
-use Rattle.std.specs.Prelude.{None, Ok, Option, Result, Some, get_or, slice_get}
+use Rattle.std.specs.Prelude.{None, Ok, Result, Some, get_or, slice_get}
 use Rattle.std.proofs.Common.{refl, sym, ap, subst, inl, inr, ◌∙◌, arith}
 use Rattle.format_toml_tree.specs.Paths.{Path, Step}
 use Rattle.format_toml_tree.specs.Rules.{Says, nothing, passes}
@@ -30,10 +30,6 @@ use Rattle.format_toml_tree.specs.declared.value.Value.{Value}
 
 none_some : {X : Type 0} (x : X) → None ≡ Some x → ⊥
 none_some x e = cc
-
-pub none_of : {X : Type 0} (o : Option X) → ((x : X) → o ≡ Some x → ⊥) → o ≡ None
-none_of None never = refl
-none_of (Some x) never = absurd (never x refl)
 
 -- only the top of the tree before all lines is a table
 top_within : (A : Type 0) (level : ℕ) → IsWithin {A = A} level empty
@@ -126,7 +122,7 @@ module _ {A : Type 0} where
   -- ---- lines in turn
 
   -- The lines from the k-th on are left to add, to a state that places hold.
-  pub record LeftToAdd (level : ℕ) (lines : List (Option (Item A))) (k table : ℕ)
+  pub record LeftToAdd (level : ℕ) (lines : List (Item A)) (k table : ℕ)
       (slots : List (Slot A)) : Type 0
     where
       pub tree : Tree A
@@ -134,26 +130,26 @@ module _ {A : Type 0} where
       pub holds : Holds slots tree path
       pub within : table < length slots
       pub nested : IsWithin level tree
-      pub left : (front : List (Option (Item A))) → IsFront front lines k
+      pub left : (front : List (Item A)) → IsFront front lines k
           → (r : Result (Tree A) (ℕ × Reason))
           → Gives level (tree, path table) k (drop k front) r → Gives level (empty, []) 0 front r
-      pub earlier : (front : List (Option (Item A))) (t : Tree A) → IsFront front lines 0
+      pub earlier : (front : List (Item A)) (t : Tree A) → IsFront front lines 0
           → length front ≤ k → Gives level (empty, []) 0 front (Ok t)
           → IsEarlier path (length slots) t
 
   same_tree : {t u : Tree A} {r : Result (Tree A) (ℕ × Reason)} → r ≡ Ok t → r ≡ Ok u → t ≡ u
   same_tree e f = cc
 
-  no_lines : (front : List (Option (Item A))) → length front ≤ 0 → front ≡ []
+  no_lines : (front : List (Item A)) → length front ≤ 0 → front ≡ []
   no_lines [] none = refl
   no_lines (line ∷ front) none = absurd (omega (arith, none))
 
-  none_given : (level : ℕ) (front : List (Option (Item A))) → front ≡ []
+  none_given : (level : ℕ) (front : List (Item A)) → front ≡ []
       → Gives level (empty, []) 0 front (Ok empty)
   none_given level front e =
       subst (λ l. Gives level (empty, []) 0 l (Ok empty)) (sym e) runs.ended
 
-  pub left_first : (level : ℕ) (lines : List (Option (Item A))) (slots : List (Slot A))
+  pub left_first : (level : ℕ) (lines : List (Item A)) (slots : List (Slot A))
       → StartsEmpty slots
       → LeftToAdd level lines 0 0 slots
   left_first level lines slots (path, holds, within) = record {
@@ -168,28 +164,28 @@ module _ {A : Type 0} where
         (earlier_now holds within);
   }
 
-  whole : (lines : List (Option (Item A))) (k : ℕ) → k ≤ length lines → IsFront lines lines k
+  whole : (lines : List (Item A)) (k : ℕ) → k ≤ length lines → IsFront lines lines k
   whole lines k most = record {
     rest = [];
     are = sym (append-nil lines);
     least = most;
   }
 
-  module _ (level : ℕ) (lines : List (Option (Item A))) (k table : ℕ) (slots : List (Slot A))
+  module _ (level : ℕ) (lines : List (Item A)) (k table : ℕ) (slots : List (Slot A))
       (left : LeftToAdd level lines k table slots) where
     pub stands : IsTreeAt slots table
     stands = (left.tree, left.path, left.holds, left.within)
 
-    module _ (line : Option (Item A)) (within : k < length lines) (is : line ≡ get_or lines k line)
+    module _ (line : Item A) (within : k < length lines) (is : line ≡ get_or lines k line)
       where
-        here : (front : List (Option (Item A))) → IsFront front lines (k + 1)
+        here : (front : List (Item A)) → IsFront front lines (k + 1)
             → drop k front ≡ line ∷ drop (k + 1) front
         here front of =
             let less : k < length front = omega (arith, of.least) in
             drop_here front k line less (is ∙ ap (λ l. get_or l k line) of.are
             ∙ get_or_append_left front of.rest line k less)
 
-        shorter : (front : List (Option (Item A))) → IsFront front lines (k + 1)
+        shorter : (front : List (Item A)) → IsFront front lines (k + 1)
             → IsFront front lines k
         shorter front of =
             record { rest = of.rest; are = of.are; least = omega (arith, of.least) }
@@ -199,11 +195,11 @@ module _ {A : Type 0} where
             → Holds new tree path → 0 < length new
             → ((t : Tree A) → IsEarlier left.path (length slots) t
             → IsEarlier path (length new) t)
-            → ((front : List (Option (Item A))) → IsFront front lines (k + 1)
+            → ((front : List (Item A)) → IsFront front lines (k + 1)
             → (r : Result (Tree A) (ℕ × Reason))
             → Gives level (tree, at) (k + 1) (drop (k + 1) front) r
             → Gives level (empty, []) 0 front r)
-            → (front : List (Option (Item A))) (t : Tree A) → IsFront front lines 0
+            → (front : List (Item A)) (t : Tree A) → IsFront front lines 0
             → length front ≤ k + 1 → Gives level (empty, []) 0 front (Ok t)
             → IsEarlier path (length new) t
         earlier_then tree path new at holds some still then_left front t of most gives =
@@ -219,66 +215,41 @@ module _ {A : Type 0} where
               | inr fewer ↦ still t (left.earlier front t of fewer gives)
             ]
 
-        pub left_blank : line ≡ None → LeftToAdd level lines (k + 1) table slots
-        left_blank none = record {
-          tree = left.tree;
-          path = left.path;
-          holds = left.holds;
-          within = left.within;
-          nested = left.nested;
-          left = then_left;
-          earlier = earlier_then left.tree left.path slots (left.path table) left.holds
-              (omega (arith, left.within)) (λ t was. was) then_left;
-        }
+        pub left_added : (j : ℕ) (new : List (Slot A))
+            → AddsLine level slots table line (Ok j) new
+            → LeftToAdd level lines (k + 1) j new
+        left_added j new added =
+            let (s, ran, is, goes) = added left.tree left.path left.holds left.nested in
+            let then_left = more s j ran in record {
+              tree = s.0;
+              path = goes.paths;
+              holds = goes.holds;
+              within = goes.within;
+              nested = is;
+              left = λ front of r by. then_left front of r
+                  (subst (λ p. Gives level (s.0, p) (k + 1) (drop (k + 1) front) r) goes.at by);
+              earlier = earlier_then s.0 goes.paths new s.1 goes.holds
+                  (omega (arith, goes.within)) (λ t was. earlier_still goes was) then_left;
+            }
           where
-            then_left : (front : List (Option (Item A))) → IsFront front lines (k + 1)
+            more : (s : State A) (j : ℕ)
+                → RunsWithin level (left.tree, left.path table) line (Ok s)
+                → (front : List (Item A)) → IsFront front lines (k + 1)
                 → (r : Result (Tree A) (ℕ × Reason))
-                → Gives level (left.tree, left.path table) (k + 1) (drop (k + 1) front) r
+                → Gives level s (k + 1) (drop (k + 1) front) r
                 → Gives level (empty, []) 0 front r
-            then_left front of r by = left.left front (shorter front of) r
+            more s j ran front of r by = left.left front (shorter front of) r
                 (subst (λ l. Gives level (left.tree, left.path table) k l r)
-                (sym (here front of ∙ ap (λ x. x ∷ drop (k + 1) front) none)) (runs.blank by))
+                (sym (here front of)) (runs.accepted ran by))
 
-        module _ (item : Item A) (some : line ≡ Some item) where
-          abbrev then_lines : (front : List (Option (Item A))) → IsFront front lines (k + 1)
-              → drop k front ≡ Some item ∷ drop (k + 1) front
-          then_lines front of = here front of ∙ ap (λ x. x ∷ drop (k + 1) front) some
-
-          pub left_added : (j : ℕ) (new : List (Slot A))
-              → AddsLine level slots table item (Ok j) new
-              → LeftToAdd level lines (k + 1) j new
-          left_added j new added =
-              let (s, ran, is, goes) = added left.tree left.path left.holds left.nested in
-              let then_left = more s j ran in record {
-                tree = s.0;
-                path = goes.paths;
-                holds = goes.holds;
-                within = goes.within;
-                nested = is;
-                left = λ front of r by. then_left front of r
-                    (subst (λ p. Gives level (s.0, p) (k + 1) (drop (k + 1) front) r) goes.at by);
-                earlier = earlier_then s.0 goes.paths new s.1 goes.holds
-                    (omega (arith, goes.within)) (λ t was. earlier_still goes was) then_left;
-              }
-            where
-              more : (s : State A) (j : ℕ)
-                  → RunsWithin level (left.tree, left.path table) item (Ok s)
-                  → (front : List (Option (Item A))) → IsFront front lines (k + 1)
-                  → (r : Result (Tree A) (ℕ × Reason))
-                  → Gives level s (k + 1) (drop (k + 1) front) r
-                  → Gives level (empty, []) 0 front r
-              more s j ran front of r by = left.left front (shorter front of) r
-                  (subst (λ l. Gives level (left.tree, left.path table) k l r)
-                  (sym (then_lines front of)) (runs.accepted ran by))
-
-          pub line_refused : (why : Reason) (new : List (Slot A))
-              → AddsLine level slots table item (Err (Invalid why)) new
-              → Gives level (empty, []) 0 lines (Err (k, why))
-          line_refused why new added =
-              left.left lines (whole lines k (omega (arith, within))) (Err (k, why))
-              (subst (λ l. Gives level (left.tree, left.path table) k l (Err (k, why)))
-              (sym (then_lines lines (whole lines (k + 1) (omega (arith, within)))))
-              (runs.refused (added left.tree left.path left.holds)))
+        pub line_refused : (why : Reason) (new : List (Slot A))
+            → AddsLine level slots table line (Err (Invalid why)) new
+            → Gives level (empty, []) 0 lines (Err (k, why))
+        line_refused why new added =
+            left.left lines (whole lines k (omega (arith, within))) (Err (k, why))
+            (subst (λ l. Gives level (left.tree, left.path table) k l (Err (k, why)))
+            (sym (here lines (whole lines (k + 1) (omega (arith, within)))))
+            (runs.refused (added left.tree left.path left.holds)))
 
     module _ (past : length lines ≤ k) (most : k ≤ length lines) where
       pub all_added : Gives level (empty, []) 0 lines (Ok left.tree)
@@ -298,7 +269,7 @@ module _ {A : Type 0} where
             (front_within front of) gives),
       )
         where
-          front_within : (front : List (Option (Item A))) → IsFront front lines 0
+          front_within : (front : List (Item A)) → IsFront front lines 0
               → length front ≤ k
           front_within front of =
               let count : length lines ≡ length front + length of.rest =

@@ -1,5 +1,5 @@
 -- The relation between the result and the tree that the lines of a document give.
-use Rattle.std.specs.Prelude.{◌≡◌, ℕ, List, [], Option, Result, Ok, Err}
+use Rattle.std.specs.Prelude.{◌≡◌, ℕ, List, [], Result, Ok, Err}
 use Rattle.std.proofs.Common.{refl, subst}
 use Rattle.format_toml_tree.specs.Runs.{Gives, empty, Tree as Given}
 use Rattle.format_toml_tree.specs.Holds.{HoldsTree}
@@ -22,11 +22,11 @@ module _ {A : Type 0} where
   IsAnswer (Err (Invalid line why)) (Err e) = e ≡ (line, why)
 
   -- for every outcome of the lines
-  abbrev pub Answers : ℕ → List (Option (Item A)) → Result (Tree A) TreeError → Type 0
+  abbrev pub Answers : ℕ → List (Item A) → Result (Tree A) TreeError → Type 0
   Answers level lines result = (outcome : Result (Given A) (ℕ × Reason))
       → Gives level (empty, []) 0 lines outcome → IsAnswer result outcome
 
-  pub answers_tree : (level : ℕ) (lines : List (Option (Item A))) (tree : Tree A) (given : Given A)
+  pub answers_tree : (level : ℕ) (lines : List (Item A)) (tree : Tree A) (given : Given A)
       → Gives level (empty, []) 0 lines (Ok given) → HoldsTree tree.slots.items given
       → Answers level lines (Ok tree)
   answers_tree level lines tree given gives holds outcome other =
@@ -36,7 +36,7 @@ module _ {A : Type 0} where
   no_memory (Ok given) = tt
   no_memory (Err e) = tt
 
-  pub answers_fault : (level : ℕ) (lines : List (Option (Item A))) (fault : TreeError)
+  pub answers_fault : (level : ℕ) (lines : List (Item A)) (fault : TreeError)
       → ((line : ℕ) (why : Reason) → fault ≡ Invalid line why
       → Gives level (empty, []) 0 lines (Err (line, why))) → Answers level lines (Err fault)
   answers_fault level lines OutOfMemory gives outcome other = no_memory outcome

@@ -1,6 +1,6 @@
 -- Proofs that the lines of a document give one tree, or that one of them is rejected first, and not
 -- both.
-use Rattle.std.specs.Prelude.{◌≡◌, ℕ, ◌+◌, List, ◌∷◌, Option, Result, Ok, Err}
+use Rattle.std.specs.Prelude.{◌≡◌, ℕ, ◌+◌, List, ◌∷◌, Result, Ok, Err}
 use Rattle.std.specs.declared.vec.Vec.{Vec}
 use Rattle.std.proofs.Common.{refl, sym, ap, subst, inl, inr, ◌∙◌, arith}
 use Rattle.std.proofs.lemmas.Bool.{cases_lt}
@@ -144,11 +144,10 @@ module _ {A : Type 0} where
       ok_or_err _ refl (runs_once s item f g)
   within_once (runs.too_deep t f not) (runs.too_deep u g never) = refl
 
-  pub gives_once : {level : ℕ} {s : State A} {k : ℕ} {lines : List (Option (Item A))}
+  pub gives_once : {level : ℕ} {s : State A} {k : ℕ} {lines : List (Item A)}
       {r t : Result (Tree A) (ℕ × Reason)} → Gives level s k lines r → Gives level s k lines t
       → r ≡ t
   gives_once runs.ended runs.ended = refl
-  gives_once (runs.blank f) (runs.blank g) = gives_once f g
   gives_once {level = level} {k = k} {lines = line ∷ lines} {t = t} (runs.accepted f more)
       (runs.accepted g others) =
       let same = within_once f g in

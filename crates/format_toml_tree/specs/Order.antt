@@ -1,5 +1,5 @@
 -- The order of the entries of a table: that in which the lines first name them.
-use Rattle.std.specs.Prelude.{◌≡◌, ℕ, ◌<◌, List, [], ◌∷◌, ◌++◌, Option, Some, Ok, length}
+use Rattle.std.specs.Prelude.{◌≡◌, ℕ, ◌<◌, List, [], ◌∷◌, ◌++◌, Some, Ok, length}
 use Rattle.std.specs.Prelude.{slice_get}
 use Rattle.format_toml_tree.specs.Access.{entry_names}
 use Rattle.format_toml_tree.specs.Holds.{Holds}
@@ -13,9 +13,9 @@ use Rattle.format_toml_tree.specs.declared.value.Item.{Item}
 
 module _ {A : Type 0} where
   -- Some first lines give a tree with something at the path `q`, and nothing at `r`.
-  pub record ComesBefore (level : ℕ) (lines : List (Option (Item A))) (q r : Path) : Type 0 where
-    pub front : List (Option (Item A))
-    pub rest : List (Option (Item A))
+  pub record ComesBefore (level : ℕ) (lines : List (Item A)) (q r : Path) : Type 0 where
+    pub front : List (Item A)
+    pub rest : List (Item A)
     pub are : lines ≡ front ++ rest
     pub tree : Tree A
     pub gives : Gives level (empty, []) 0 front (Ok tree)
@@ -23,14 +23,14 @@ module _ {A : Type 0} where
     pub later : tree r ≡ nothing
 
   -- An entry that earlier lines name has a lower index than one that only later lines name.
-  abbrev pub AreInOrder : ℕ → List (Option (Item A)) → List (Slot A) → Tree A → (ℕ → Path) → Type 0
+  abbrev pub AreInOrder : ℕ → List (Item A) → List (Slot A) → Tree A → (ℕ → Path) → Type 0
   AreInOrder level lines slots tree path = (node : Node A) (p : Path) (k m : ℕ) (x y : List ℕ)
       → node.tree.now.slots.items ≡ slots → IsAt node tree path p
       → slice_get (entry_names node) k ≡ Some x → slice_get (entry_names node) m ≡ Some y
       → ComesBefore level lines (named x ∷ p) (named y ∷ p) → k < m
 
   -- The slots hold the tree that the lines give, with entries in order.
-  abbrev pub HoldsInOrder : ℕ → List (Option (Item A)) → List (Slot A) → Type 0
+  abbrev pub HoldsInOrder : ℕ → List (Item A) → List (Slot A) → Type 0
   HoldsInOrder level lines slots = (given : Tree A) × (path : ℕ → Path)
       × Gives level (empty, []) 0 lines (Ok given) × Holds slots given path × (0 < length slots)
       × AreInOrder level lines slots given path

@@ -1,6 +1,6 @@
 -- The tree that the statements of a document give, or the first that is rejected (TOML 1.0).
-use Rattle.std.specs.Prelude.{◌≡◌, ℕ, suc, ◌+◌, ◌<◌, ◌≤◌, List, [], ◌∷◌, Result, Ok, Err, Option}
-use Rattle.std.specs.Prelude.{Some, None, length, string_bytes}
+use Rattle.std.specs.Prelude.{◌≡◌, ℕ, suc, ◌+◌, ◌<◌, ◌≤◌, List, [], ◌∷◌, Result, Ok, Err}
+use Rattle.std.specs.Prelude.{length, string_bytes}
 use Rattle.std.specs.declared.string.String.{String}
 use Rattle.std.specs.declared.vec.Vec.{Vec}
 use Rattle.format_toml_tree.specs.Paths.{Path, named, placed, put}
@@ -147,17 +147,15 @@ module _ {A : Type 0} where
       too_deep : (t : State A) → Runs s item (Ok t) → (IsWithin level t.0 → ⊥)
           → RunsWithin level s item (Err TooDeep)
 
-  -- The lines of a document, from the `k`-th on, give a tree, or one of them is rejected first.
+  -- The lines of a document that are not blank, from the `k`-th of these on, give a tree, or one of
+  -- them is rejected first.
   pub data Gives (level : ℕ)
-      : State A → ℕ → List (Option (Item A)) → Result (Tree A) (ℕ × Reason) → Type 0
+      : State A → ℕ → List (Item A) → Result (Tree A) (ℕ × Reason) → Type 0
     where
       ended : {s : State A} {k : ℕ} → Gives level s k [] (Ok s.0)
-      blank : {s : State A} {k : ℕ} {lines : List (Option (Item A))}
-          {r : Result (Tree A) (ℕ × Reason)}
-          → Gives level s (k + 1) lines r → Gives level s k (None ∷ lines) r
-      accepted : {s t : State A} {k : ℕ} {item : Item A} {lines : List (Option (Item A))}
+      accepted : {s t : State A} {k : ℕ} {item : Item A} {lines : List (Item A)}
           {r : Result (Tree A) (ℕ × Reason)} → RunsWithin level s item (Ok t)
-          → Gives level t (k + 1) lines r → Gives level s k (Some item ∷ lines) r
-      refused : {s : State A} {k : ℕ} {item : Item A} {lines : List (Option (Item A))}
+          → Gives level t (k + 1) lines r → Gives level s k (item ∷ lines) r
+      refused : {s : State A} {k : ℕ} {item : Item A} {lines : List (Item A)}
           {why : Reason} → RunsWithin level s item (Err why)
-          → Gives level s k (Some item ∷ lines) (Err (k, why))
+          → Gives level s k (item ∷ lines) (Err (k, why))

@@ -1,4 +1,4 @@
-//! From the lines of a document to its tree.
+//! From the statements of a document to its tree.
 ghost use Rattle.std.specs.Prelude.{◌≡◌, ℕ, [], IfOk, Ok, Err};
 ghost use Rattle.format_toml_tree.specs.Runs.{Gives, IsWithin, Tree as Given, empty};
 ghost use Rattle.format_toml_tree.specs.Answer.{Answers};
@@ -16,25 +16,25 @@ use std::error::Error;
 use std::fmt;
 use std::fmt::{Display, Formatter};
 
-/// Why some lines have no tree. As text the number of a line is counted from 1.
+/// Why some statements have no tree. As text the number of a statement is counted from 1.
 ///
 /// ```
 /// use format_toml_tree::build::TreeError;
 /// use format_toml_tree::roles::Reason;
 ///
-/// let fault = TreeError::Invalid { line: 2, why: Reason::NoTable };
+/// let fault = TreeError::Invalid { statement: 2, why: Reason::NoTable };
 /// let said = format!(in alloc; "{fault}");
-/// let wanted = "line 3: key is not a table";
+/// let wanted = "statement 3: key is not a table";
 /// assert!(rt; matches!(said, Ok(said) if said.as_str() == wanted));
 /// ```
 #[derive(Debug, Clone, Copy, PartialEq, Eq, Drop)]
 pub enum TreeError {
     /// Memory allocation failed.
     OutOfMemory,
-    /// A line is rejected.
+    /// A statement is rejected.
     Invalid {
         /// Its number, counted from 0.
-        line: usize,
+        statement: usize,
         /// The reason for the rejection.
         why: Reason,
     },
@@ -54,31 +54,36 @@ impl Display for TreeError {
     fn fmt<W: fmt::Write>(&self, f: &mut Formatter<W>) -> fmt::Result {
         match *self {
             TreeError::OutOfMemory => f.write_str("out of memory"),
-            TreeError::Invalid { line, why } => write!(f, "line {}: {why}", line.saturating_add(1)),
+            TreeError::Invalid { statement, why } => {
+                write!(f, "statement {}: {why}", statement.saturating_add(1))
+            }
         }
     }
 }
 
 impl Error for TreeError {}
 
-/// Why some lines have no tree, where one of them stops.
+/// Why some statements have no tree, where the one on this line stops.
 fn fault_at(line: usize, stop: Stop) -> TreeError
     ensures { (at : ℕ) (why : Reason) → result ≡ Invalid at why
         → (at ≡ line) × (stop ≡ StoppedBy why) }
 {
     match stop {
         Stop::OutOfMemory => TreeError::OutOfMemory,
-        Stop::Invalid(why) => TreeError::Invalid { line, why },
+        Stop::Invalid(why) => TreeError::Invalid {
+            statement: line,
+            why,
+        },
     }
 }
 
-/// Builds the tree of some lines, or returns the first that is rejected.
+/// Builds the tree of the statements of some lines, or returns the first that is rejected.
 ///
 /// Each table and array of the tree is nested at most `level` deep: `[a]`, `a.b = 1` and `a = {}`
 /// make a table at depth 1, `[[a]]` an array at depth 1 and its tables at depth 2. So a caller who
 /// recurses into the tree needs a stack for `level` calls.
 ///
-/// The error has the number of the line, counted from 0, and why it is rejected; or memory
+/// The error has the number of the statement, counted from 0, and why it is rejected; or memory
 /// allocation failed. The tree borrows names and values from the lines. The time is by the number
 /// of all names, and for each by the logarithm of the number of entries of its table.
 ///
@@ -91,7 +96,7 @@ fn fault_at(line: usize, stop: Stop) -> TreeError
 /// if let Ok(name) = String::from_str(alloc, "port") {
 ///     let _ = names.push(name);
 /// }
-/// let lines = [Some(Item::Entry(Key { names }, Value::Integer(80)))];
+/// let lines = [Item::Entry(Key { names }, Value::Integer(80))];
 /// match build(alloc, 0, &lines) {
 ///     Ok(tree) => {
 ///         let port = tree.root().get("port").and_then(|node| node.as_i64());
@@ -103,7 +108,7 @@ fn fault_at(line: usize, stop: Stop) -> TreeError
 pub fn build<'t, A: Allocator + Copy>(
     alloc: A,
     level: usize,
-    lines: &'t [Option<Item<A>>],
+    lines: &'t [Item<A>],
 ) -> Result<Tree<'t, A>, TreeError>
     ensures answers { Answers level lines.now result }
     ensures accepted { IfOk result
@@ -116,12 +121,11 @@ pub fn build<'t, A: Allocator + Copy>(
     let mut tree = Tree::new(alloc)?;
     let mut table = 0;
     for line in 0..lines.len() {
-        if let Some(item) = &lines[line] {
-            match tree.add_line(alloc, level, table, item) {
-                Ok(next) => table = next,
-                Err(stop) => return Err(fault_at(line, stop)),
-            }
+        match tree.add_line(alloc, level, table, &lines[line]) {
+            Ok(next) => table = next,
+            Err(stop) => return Err(fault_at(line, stop)),
         }
     }
+    tree.slots.shrink_to_fit();
     Ok(tree)
 }

@@ -1,7 +1,7 @@
 //! The tree of a TOML 1.0 document (toml.io/en/v1.0.0), from the statements of its lines.
 //!
-//! The lines of a document are given as `&[Option<Item<A>>]`, with `None` for a blank one. Their
-//! text is parsed elsewhere. `build` returns their tree, or the first line that the standard
+//! The lines of a document are given by their statements, `&[Item<A>]`; a blank line has none.
+//! Their text is parsed elsewhere. `build` returns their tree, or the first line that the standard
 //! rejects. The definition is in `specs/Rules.antt`, a table of the effects of statements in the
 //! words of the standard, and in `specs/Runs.antt`, the statements in sequence over a tree of
 //! paths.

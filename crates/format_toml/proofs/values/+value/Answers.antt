@@ -1,4 +1,5 @@
 use Rattle.std.proofs.Common.{refl, rules, arith}
+use Rattle.format_toml.proofs.StatementsLemmas.{gathered_keeps, reads_kept, second_keeps}
 use Rattle.format_toml.proofs.Nested.{value_array, value_inline, value_last, value_scalar}
 use Rattle.format_toml.specs.Toml.{IsArray, IsInline}
 use Rattle.format_toml.proofs.LineTexts.{value_of}
@@ -19,7 +20,9 @@ pub read_array-returns-in-Err : goal.read_array-returns-in-Err
 read_array-returns-in-Err g t c = reads_no_meaning IsArray c.in-Err.ensures
 
 pub read_inline-returns-in-Ok : goal.read_inline-returns-in-Ok
-read_inline-returns-in-Ok g t c = reads_meaning IsInline c.in-Ok.ensures.reads refl
+read_inline-returns-in-Ok g t c =
+    reads_meaning IsInline
+    (reads_kept (second_keeps (gathered_keeps _) _ _) c.exact.ensures c.in-Ok.ensures.reads) refl
 
 pub read_inline-returns-in-Err : goal.read_inline-returns-in-Err
 read_inline-returns-in-Err g t c = reads_no_meaning IsInline c.in-Err.ensures.reads

@@ -1,13 +1,14 @@
-use Rattle.std.proofs.Common.{[], ◌≡◌, Result, Err, refl, subst, sym, ◌+◌, ap, arith}
+use Rattle.std.proofs.Common.{[], ◌≡◌, List, Result, Err, refl, subst, sym, ap, arith}
 use Rattle.format_toml_tree.specs.Answer.{answers_fault, no_memory, answers_tree}
-use Rattle.format_toml_tree.specs.Holds.{AddsLine}
-use Rattle.format_toml_tree.proofs.Lines.{LeftToAdd, all_added, all_in_order, left_added}
-use Rattle.format_toml_tree.proofs.Lines.{left_blank, left_first}
-use Rattle.format_toml_tree.proofs.Lines.{line_refused, none_of, some_place, stands}
+use Rattle.format_toml_tree.specs.Holds.{AddsLine, HoldsTree}
+use Rattle.format_toml_tree.specs.Order.{HoldsInOrder}
+use Rattle.format_toml_tree.specs.contracts.build.build.{A-type}
+use Rattle.format_toml_tree.specs.declared.tree.Slot.{Slot}
+use Rattle.format_toml_tree.proofs.Lines.{all_added, all_in_order, left_added}
+use Rattle.format_toml_tree.proofs.Lines.{left_first, line_refused, some_place, stands}
 use Rattle.format_toml_tree.specs.Runs.{Gives, empty}
 use Rattle.format_toml_tree.specs.declared.build.TreeError.{TreeError}
 use Rattle.format_toml_tree.proofs.build.build.Goals as goal
-use Rattle.format_toml_tree.proofs.build.build.Goals.{in-Some+in-Ok, in_default}
 use Rattle.format_toml_tree.proofs.KeysLemmas.{err_is}
 
 pub loop-line-init : goal.loop-line-init
@@ -26,44 +27,36 @@ returns-in-Err-clause-refused g c line why e =
     let old = c.loop-line.tree.slots.items in
     let new = c.add_line.new.self.slots.items in
     subst (λ l. Gives c.args.level (empty, []) 0 lines (Err (l, why))) (sym at) (line_refused _ _
-    _ _ _ c.loop-line.invariant _ c.loop-line-test.true c.index-lines-line.is _ c.in-Some.is _ new
-    (subst (λ s. AddsLine c.args.level old c.loop-line.table c.in-Some.item (Err s) new) stop
+    _ _ _ c.loop-line.invariant _ c.loop-line-test.true c.index-lines-line.is _ new
+    (subst (λ s. AddsLine c.args.level old c.loop-line.table c.index-lines-line.result
+    (Err s) new) stop
     c.in-Err.ensures))
 
 pub loop-line-preserved : goal.loop-line-preserved
 loop-line-preserved g c =
-    let lines = c.args.lines.now in
-    let k = c.loop-line.line in
-    let slots = c.match-lines-line.tree.slots.items in
-    let level = c.args.level in
-    elim c.match-lines-line.branch [
-      | in-Some+in-Ok w ↦
-          subst (λ t. LeftToAdd level lines (k + 1) t slots) (sym w.table-is)
-          (subst (λ t. LeftToAdd level lines (k + 1) w.in-Ok.next t.slots.items) (sym
-          w.tree-is) (left_added _ _ _ _ _ c.loop-line.invariant _ c.loop-line-test.true
-          c.index-lines-line.is _ w.in-Some.is _ _ w.in-Ok.ensures))
-      | in_default w ↦
-          subst (λ t. LeftToAdd level lines (k + 1) t slots) (sym w.table-is)
-          (subst (λ t. LeftToAdd level lines (k + 1) c.loop-line.table t.slots.items) (sym
-          w.tree-is) (left_blank _ _ _ _ _ c.loop-line.invariant _ c.loop-line-test.true
-          c.index-lines-line.is (none_of _ w.in_default.not-Some)))
-    ]
+    left_added _ _ _ _ _ c.loop-line.invariant _ c.loop-line-test.true c.index-lines-line.is _ _
+    c.in-Ok.ensures
 
 pub returns-clause-accepted : goal.returns-clause-accepted
-returns-clause-accepted g c = (
-  c.loop-line.invariant.tree,
-  all_added _ _ _ _ _ c.loop-line.invariant c.loop-line-test.false (omega arith),
-  (
-    c.loop-line.invariant.path,
-    c.loop-line.invariant.holds,
-    some_place _ _ _ _ _ c.loop-line.invariant,
-  ),
-  c.loop-line.invariant.nested,
-)
+returns-clause-accepted g c =
+    let P : List (Slot (A-type g.row.A)) → Type 0 = λ slots.
+    HoldsTree slots c.loop-line.invariant.tree in (
+      c.loop-line.invariant.tree,
+      all_added _ _ _ _ _ c.loop-line.invariant c.loop-line-test.false (omega arith),
+      subst P (sym c.shrink_to_fit.ensures.items) (
+        c.loop-line.invariant.path,
+        c.loop-line.invariant.holds,
+        some_place _ _ _ _ _ c.loop-line.invariant,
+      ),
+      c.loop-line.invariant.nested,
+    )
 
 pub returns-clause-order : goal.returns-clause-order
 returns-clause-order g c =
-    all_in_order _ _ _ _ _ c.loop-line.invariant c.loop-line-test.false (omega arith)
+    let P : List (Slot (A-type g.row.A)) → Type 0 = λ slots.
+    HoldsInOrder c.args.level c.args.lines.now slots in
+    subst P (sym c.shrink_to_fit.ensures.items)
+    (all_in_order _ _ _ _ _ c.loop-line.invariant c.loop-line-test.false (omega arith))
 
 pub returns-in_err-tree-clause-answers : goal.returns-in_err-tree-clause-answers
 returns-in_err-tree-clause-answers g c =
@@ -78,4 +71,4 @@ returns-in-Err-clause-answers g c =
 pub returns-clause-answers : goal.returns-clause-answers
 returns-clause-answers g c =
     let told = returns-clause-accepted g c in
-    answers_tree _ _ c.loop-line.tree _ told.1 told.2
+    answers_tree _ _ (record { slots = c.shrink_to_fit.new.self }) _ told.1 told.2
