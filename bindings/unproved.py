@@ -67,7 +67,7 @@ def nothing(name, structs, where, module):
     if name == "&[u8]":
         return "&bytes"
     if name not in structs:
-        return "false" if name == "bool" else "0"
+        return {"bool": "false", "f64": "0.0"}.get(name, "0")
     parts = [(it.name, nothing(it.parts[0], structs, where, module)) for it in structs[name].parts]
     inside = ", ".join(f"{part}: {value}" for part, value in parts)
     return f"exported::{where.get((module, name), where[name])}::{name} {{ {inside} }}"

@@ -16,7 +16,7 @@ KINDS = {
     "JSON_": ("json_kind", "The kinds of JSON items.", ("JsonItem", "JsonNode", "kind")),
     "RESP_": ("resp_kind", "The kinds of Redis replies.", ("Reply", "RespNode", "kind")),
     "TOML_ERROR_": ("toml_error", "The errors of TOML documents.", ("TomlResult", "error")),
-    "TOML_": ("toml_kind", "The kinds of TOML nodes.", ("TomlValue", "kind")),
+    "TOML_": ("toml_kind", "The kinds of TOML nodes.", ("TomlValue", "TomlDateTimeParts", "kind")),
     "CHUNKED_ERROR_": ("chunked_error", "The errors of chunked bodies.", ("ChunkedStep", "error")),
     "CHUNKED_": ("chunked_kind", "The parts of chunked bodies.", ("ChunkedStep", "kind")),
     "HTTP_BODY_": ("http_body_kind", "How the length of a body is determined.", ("HttpBody", "kind")),

@@ -37,7 +37,7 @@ COST = [
 ]
 # The types of single values in Rust and in C.
 PLAIN = {"u8": "uint8_t", "u16": "uint16_t", "u32": "uint32_t", "u64": "uint64_t", "i16": "int16_t",
-         "i32": "int32_t", "i64": "int64_t", "usize": "size_t", "bool": "bool"}
+         "i32": "int32_t", "i64": "int64_t", "f64": "double", "usize": "size_t", "bool": "bool"}
 
 
 def version():
@@ -358,9 +358,9 @@ def record(codes, constants, structs, exports):
     return version_map(tuple(map(int, version())), of_c, enums, structs, exports)
 
 
-def manifest():
-    """Returns the manifest of the Rust crate, with the version."""
-    text = (BINDINGS / "rust/Cargo.toml").read_text(encoding="utf-8")
+def manifest(crate):
+    """Returns the manifest of a Rust crate, with the version."""
+    text = (BINDINGS / crate / "Cargo.toml").read_text(encoding="utf-8")
     return re.sub(r'^version = ".*"$', f'version = "{".".join(version())}"', text, count=1, flags=re.M)
 
 
@@ -379,7 +379,7 @@ def main(words):
         "c/pergidau.c": glue(codes, constants, structs, exports),
         "c/pergidau.map": mapped,
         "rust/src/exports.rs": rust(codes, constants, structs, exports),
-        "rust/Cargo.toml": manifest(),
+        **{f"{it}/Cargo.toml": manifest(it) for it in ("rust", "serde")},
     }
     wrong = 0
     for name, text in made.items():

@@ -5,7 +5,7 @@ from exports import TOP, snake
 
 TEMPLATE = TOP / "bindings/c/pergidau.hpp.in"
 PLAIN = {"usize": "std::size_t", "i64": "std::int64_t", "u64": "std::uint64_t",
-         "u32": "std::uint32_t", "u8": "std::uint8_t"}
+         "u32": "std::uint32_t", "u8": "std::uint8_t", "f64": "double"}
 
 
 def type_in_cxx(name):

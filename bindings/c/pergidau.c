@@ -111,6 +111,22 @@ uint32_t exported_http_field(
     const uint8_t *name,
     size_t name_length,
     size_t *out);
+uint32_t exported_http_request_framing(
+    const uint8_t *bytes,
+    size_t bytes_length,
+    const struct pergidau_field *fields,
+    size_t fields_length,
+    const struct pergidau_head *head,
+    struct pergidau_http_framing *out);
+uint32_t exported_http_response_framing(
+    const uint8_t *method,
+    size_t method_length,
+    const uint8_t *bytes,
+    size_t bytes_length,
+    const struct pergidau_field *fields,
+    size_t fields_length,
+    const struct pergidau_response_head *head,
+    struct pergidau_http_framing *out);
 uint32_t exported_http_response_head(
     const uint8_t *bytes,
     size_t bytes_length,
@@ -184,6 +200,22 @@ uint32_t exported_json_natural(
     const uint8_t *bytes,
     size_t bytes_length,
     uint64_t *out);
+uint32_t exported_json_node_member(
+    const uint8_t *text,
+    size_t text_length,
+    const struct pergidau_json_node *nodes,
+    size_t nodes_length,
+    size_t index,
+    const uint8_t *name,
+    size_t name_length,
+    uint32_t is_token,
+    size_t *out);
+uint32_t exported_json_node_element(
+    const struct pergidau_json_node *nodes,
+    size_t nodes_length,
+    size_t index,
+    size_t position,
+    size_t *out);
 uint32_t exported_json_member(
     const uint8_t *bytes,
     size_t bytes_length,
@@ -199,6 +231,13 @@ uint32_t exported_json_nodes(
     struct pergidau_json_node *nodes,
     size_t nodes_length,
     size_t *out);
+uint32_t exported_json_pointer(
+    const uint8_t *text,
+    size_t text_length,
+    size_t max_depth,
+    const uint8_t *pointer,
+    size_t pointer_length,
+    struct pergidau_json_item *out);
 uint32_t exported_json_step(
     const uint8_t *bytes,
     size_t bytes_length,
@@ -209,6 +248,12 @@ uint32_t exported_json_string(
     uint8_t *buffer,
     size_t buffer_length,
     struct pergidau_json_text *out);
+uint32_t exported_json_write_string(
+    const uint8_t *bytes,
+    size_t bytes_length,
+    uint8_t *buffer,
+    size_t buffer_length,
+    size_t *out);
 uint32_t exported_pair_line(
     const uint8_t *bytes,
     size_t bytes_length,
@@ -258,6 +303,10 @@ uint32_t exported_text_position(
     size_t bytes_length,
     size_t offset,
     struct pergidau_position *out);
+uint32_t exported_text_double(
+    const uint8_t *bytes,
+    size_t bytes_length,
+    double *out);
 uint32_t exported_toml_document(
     const uint8_t *bytes,
     size_t bytes_length,
@@ -267,6 +316,23 @@ uint32_t exported_toml_document(
     struct pergidau_toml_node *nodes,
     size_t nodes_length,
     struct pergidau_toml_result *out);
+uint32_t exported_toml_date_time(
+    const uint8_t *bytes,
+    size_t bytes_length,
+    struct pergidau_toml_date_time_parts *out);
+uint32_t exported_toml_nanosecond(
+    const uint8_t *digits,
+    size_t digits_length,
+    uint32_t *out);
+uint32_t exported_toml_find(
+    const uint8_t *text,
+    size_t text_length,
+    const struct pergidau_toml_node *nodes,
+    size_t nodes_length,
+    size_t table,
+    const struct pergidau_bytes *names,
+    size_t names_length,
+    size_t *out);
 
 const char pergidau_abi_1 = 0;
 
@@ -320,6 +386,8 @@ const char *pergidau_message(enum pergidau_code code)
         return "number out of range";
     case PERGIDAU_INVALID_DIALECT:
         return "impossible dialect: delimiter, quote, carriage return and line feed must be four different bytes, and the line ending one of the constants";
+    case PERGIDAU_INVALID_POINTER:
+        return "invalid JSON pointer (RFC 6901)";
     }
     return "unknown code";
 }
@@ -1152,6 +1220,92 @@ enum pergidau_code pergidau_http_field(
     return (enum pergidau_code)exported_http_field(bytes, bytes_length, fields, fields_length, name, name_length, out);
 }
 
+enum pergidau_code pergidau_http_request_framing(
+    const uint8_t *bytes,
+    size_t bytes_length,
+    const struct pergidau_field *fields,
+    size_t fields_length,
+    const struct pergidau_head *head,
+    struct pergidau_http_framing *out)
+{
+    const uint8_t no_bytes = {0};
+    const struct pergidau_field no_fields = {0};
+    if (bytes_length > PTRDIFF_MAX / sizeof(uint8_t)) {
+        return PERGIDAU_TOO_LONG;
+    }
+    if (bytes == NULL && bytes_length > 0) {
+        return PERGIDAU_NULL;
+    }
+    if (fields_length > PTRDIFF_MAX / sizeof(struct pergidau_field)) {
+        return PERGIDAU_TOO_LONG;
+    }
+    if (fields == NULL && fields_length > 0) {
+        return PERGIDAU_NULL;
+    }
+    if (head == NULL) {
+        return PERGIDAU_NULL;
+    }
+    if (out == NULL) {
+        return PERGIDAU_NULL;
+    }
+    if (bytes == NULL) {
+        bytes = &no_bytes;
+    }
+    if (fields == NULL) {
+        fields = &no_fields;
+    }
+    return (enum pergidau_code)exported_http_request_framing(bytes, bytes_length, fields, fields_length, head, out);
+}
+
+enum pergidau_code pergidau_http_response_framing(
+    const uint8_t *method,
+    size_t method_length,
+    const uint8_t *bytes,
+    size_t bytes_length,
+    const struct pergidau_field *fields,
+    size_t fields_length,
+    const struct pergidau_response_head *head,
+    struct pergidau_http_framing *out)
+{
+    const uint8_t no_method = {0};
+    const uint8_t no_bytes = {0};
+    const struct pergidau_field no_fields = {0};
+    if (method_length > PTRDIFF_MAX / sizeof(uint8_t)) {
+        return PERGIDAU_TOO_LONG;
+    }
+    if (method == NULL && method_length > 0) {
+        return PERGIDAU_NULL;
+    }
+    if (bytes_length > PTRDIFF_MAX / sizeof(uint8_t)) {
+        return PERGIDAU_TOO_LONG;
+    }
+    if (bytes == NULL && bytes_length > 0) {
+        return PERGIDAU_NULL;
+    }
+    if (fields_length > PTRDIFF_MAX / sizeof(struct pergidau_field)) {
+        return PERGIDAU_TOO_LONG;
+    }
+    if (fields == NULL && fields_length > 0) {
+        return PERGIDAU_NULL;
+    }
+    if (head == NULL) {
+        return PERGIDAU_NULL;
+    }
+    if (out == NULL) {
+        return PERGIDAU_NULL;
+    }
+    if (method == NULL) {
+        method = &no_method;
+    }
+    if (bytes == NULL) {
+        bytes = &no_bytes;
+    }
+    if (fields == NULL) {
+        fields = &no_fields;
+    }
+    return (enum pergidau_code)exported_http_response_framing(method, method_length, bytes, bytes_length, fields, fields_length, head, out);
+}
+
 enum pergidau_code pergidau_http_response_head(
     const uint8_t *bytes,
     size_t bytes_length,
@@ -1512,6 +1666,76 @@ enum pergidau_code pergidau_json_natural(
     return (enum pergidau_code)exported_json_natural(bytes, bytes_length, out);
 }
 
+enum pergidau_code pergidau_json_node_member(
+    const uint8_t *text,
+    size_t text_length,
+    const struct pergidau_json_node *nodes,
+    size_t nodes_length,
+    size_t index,
+    const uint8_t *name,
+    size_t name_length,
+    uint32_t is_token,
+    size_t *out)
+{
+    const uint8_t no_text = {0};
+    const struct pergidau_json_node no_nodes = {0};
+    const uint8_t no_name = {0};
+    if (text_length > PTRDIFF_MAX / sizeof(uint8_t)) {
+        return PERGIDAU_TOO_LONG;
+    }
+    if (text == NULL && text_length > 0) {
+        return PERGIDAU_NULL;
+    }
+    if (nodes_length > PTRDIFF_MAX / sizeof(struct pergidau_json_node)) {
+        return PERGIDAU_TOO_LONG;
+    }
+    if (nodes == NULL && nodes_length > 0) {
+        return PERGIDAU_NULL;
+    }
+    if (name_length > PTRDIFF_MAX / sizeof(uint8_t)) {
+        return PERGIDAU_TOO_LONG;
+    }
+    if (name == NULL && name_length > 0) {
+        return PERGIDAU_NULL;
+    }
+    if (out == NULL) {
+        return PERGIDAU_NULL;
+    }
+    if (text == NULL) {
+        text = &no_text;
+    }
+    if (nodes == NULL) {
+        nodes = &no_nodes;
+    }
+    if (name == NULL) {
+        name = &no_name;
+    }
+    return (enum pergidau_code)exported_json_node_member(text, text_length, nodes, nodes_length, index, name, name_length, is_token, out);
+}
+
+enum pergidau_code pergidau_json_node_element(
+    const struct pergidau_json_node *nodes,
+    size_t nodes_length,
+    size_t index,
+    size_t position,
+    size_t *out)
+{
+    const struct pergidau_json_node no_nodes = {0};
+    if (nodes_length > PTRDIFF_MAX / sizeof(struct pergidau_json_node)) {
+        return PERGIDAU_TOO_LONG;
+    }
+    if (nodes == NULL && nodes_length > 0) {
+        return PERGIDAU_NULL;
+    }
+    if (out == NULL) {
+        return PERGIDAU_NULL;
+    }
+    if (nodes == NULL) {
+        nodes = &no_nodes;
+    }
+    return (enum pergidau_code)exported_json_node_element(nodes, nodes_length, index, position, out);
+}
+
 enum pergidau_code pergidau_json_member(
     const uint8_t *bytes,
     size_t bytes_length,
@@ -1581,6 +1805,40 @@ enum pergidau_code pergidau_json_nodes(
     return (enum pergidau_code)exported_json_nodes(text, text_length, max_depth, nodes, nodes_length, out);
 }
 
+enum pergidau_code pergidau_json_pointer(
+    const uint8_t *text,
+    size_t text_length,
+    size_t max_depth,
+    const uint8_t *pointer,
+    size_t pointer_length,
+    struct pergidau_json_item *out)
+{
+    const uint8_t no_text = {0};
+    const uint8_t no_pointer = {0};
+    if (text_length > PTRDIFF_MAX / sizeof(uint8_t)) {
+        return PERGIDAU_TOO_LONG;
+    }
+    if (text == NULL && text_length > 0) {
+        return PERGIDAU_NULL;
+    }
+    if (pointer_length > PTRDIFF_MAX / sizeof(uint8_t)) {
+        return PERGIDAU_TOO_LONG;
+    }
+    if (pointer == NULL && pointer_length > 0) {
+        return PERGIDAU_NULL;
+    }
+    if (out == NULL) {
+        return PERGIDAU_NULL;
+    }
+    if (text == NULL) {
+        text = &no_text;
+    }
+    if (pointer == NULL) {
+        pointer = &no_pointer;
+    }
+    return (enum pergidau_code)exported_json_pointer(text, text_length, max_depth, pointer, pointer_length, out);
+}
+
 enum pergidau_code pergidau_json_step(
     const uint8_t *bytes,
     size_t bytes_length,
@@ -1633,6 +1891,39 @@ enum pergidau_code pergidau_json_string(
         buffer = &no_buffer;
     }
     return (enum pergidau_code)exported_json_string(bytes, bytes_length, buffer, buffer_length, out);
+}
+
+enum pergidau_code pergidau_json_write_string(
+    const uint8_t *bytes,
+    size_t bytes_length,
+    uint8_t *buffer,
+    size_t buffer_length,
+    size_t *out)
+{
+    const uint8_t no_bytes = {0};
+    uint8_t no_buffer = {0};
+    if (bytes_length > PTRDIFF_MAX / sizeof(uint8_t)) {
+        return PERGIDAU_TOO_LONG;
+    }
+    if (bytes == NULL && bytes_length > 0) {
+        return PERGIDAU_NULL;
+    }
+    if (buffer_length > PTRDIFF_MAX / sizeof(uint8_t)) {
+        return PERGIDAU_TOO_LONG;
+    }
+    if (buffer == NULL && buffer_length > 0) {
+        return PERGIDAU_NULL;
+    }
+    if (out == NULL) {
+        return PERGIDAU_NULL;
+    }
+    if (bytes == NULL) {
+        bytes = &no_bytes;
+    }
+    if (buffer == NULL) {
+        buffer = &no_buffer;
+    }
+    return (enum pergidau_code)exported_json_write_string(bytes, bytes_length, buffer, buffer_length, out);
 }
 
 enum pergidau_code pergidau_pair_line(
@@ -1871,6 +2162,27 @@ enum pergidau_code pergidau_text_position(
     return (enum pergidau_code)exported_text_position(bytes, bytes_length, offset, out);
 }
 
+enum pergidau_code pergidau_text_double(
+    const uint8_t *bytes,
+    size_t bytes_length,
+    double *out)
+{
+    const uint8_t no_bytes = {0};
+    if (bytes_length > PTRDIFF_MAX / sizeof(uint8_t)) {
+        return PERGIDAU_TOO_LONG;
+    }
+    if (bytes == NULL && bytes_length > 0) {
+        return PERGIDAU_NULL;
+    }
+    if (out == NULL) {
+        return PERGIDAU_NULL;
+    }
+    if (bytes == NULL) {
+        bytes = &no_bytes;
+    }
+    return (enum pergidau_code)exported_text_double(bytes, bytes_length, out);
+}
+
 enum pergidau_code pergidau_toml_document(
     const uint8_t *bytes,
     size_t bytes_length,
@@ -1915,4 +2227,100 @@ enum pergidau_code pergidau_toml_document(
         nodes = &no_nodes;
     }
     return (enum pergidau_code)exported_toml_document(bytes, bytes_length, max_depth, text, text_length, nodes, nodes_length, out);
+}
+
+enum pergidau_code pergidau_toml_date_time(
+    const uint8_t *bytes,
+    size_t bytes_length,
+    struct pergidau_toml_date_time_parts *out)
+{
+    const uint8_t no_bytes = {0};
+    if (bytes_length > PTRDIFF_MAX / sizeof(uint8_t)) {
+        return PERGIDAU_TOO_LONG;
+    }
+    if (bytes == NULL && bytes_length > 0) {
+        return PERGIDAU_NULL;
+    }
+    if (out == NULL) {
+        return PERGIDAU_NULL;
+    }
+    if (bytes == NULL) {
+        bytes = &no_bytes;
+    }
+    return (enum pergidau_code)exported_toml_date_time(bytes, bytes_length, out);
+}
+
+enum pergidau_code pergidau_toml_nanosecond(
+    const uint8_t *digits,
+    size_t digits_length,
+    uint32_t *out)
+{
+    const uint8_t no_digits = {0};
+    if (digits_length > PTRDIFF_MAX / sizeof(uint8_t)) {
+        return PERGIDAU_TOO_LONG;
+    }
+    if (digits == NULL && digits_length > 0) {
+        return PERGIDAU_NULL;
+    }
+    if (out == NULL) {
+        return PERGIDAU_NULL;
+    }
+    if (digits == NULL) {
+        digits = &no_digits;
+    }
+    return (enum pergidau_code)exported_toml_nanosecond(digits, digits_length, out);
+}
+
+enum pergidau_code pergidau_toml_find(
+    const uint8_t *text,
+    size_t text_length,
+    const struct pergidau_toml_node *nodes,
+    size_t nodes_length,
+    size_t table,
+    const struct pergidau_bytes *names,
+    size_t names_length,
+    size_t *out)
+{
+    const uint8_t no_text = {0};
+    const struct pergidau_toml_node no_nodes = {0};
+    const struct pergidau_bytes no_names = {0};
+    if (text_length > PTRDIFF_MAX / sizeof(uint8_t)) {
+        return PERGIDAU_TOO_LONG;
+    }
+    if (text == NULL && text_length > 0) {
+        return PERGIDAU_NULL;
+    }
+    if (nodes_length > PTRDIFF_MAX / sizeof(struct pergidau_toml_node)) {
+        return PERGIDAU_TOO_LONG;
+    }
+    if (nodes == NULL && nodes_length > 0) {
+        return PERGIDAU_NULL;
+    }
+    if (names_length > PTRDIFF_MAX / sizeof(struct pergidau_bytes)) {
+        return PERGIDAU_TOO_LONG;
+    }
+    if (names == NULL && names_length > 0) {
+        return PERGIDAU_NULL;
+    }
+    if (out == NULL) {
+        return PERGIDAU_NULL;
+    }
+    for (size_t at = 0; at < names_length; at++) {
+        if (names[at].bytes_length > PTRDIFF_MAX) {
+            return PERGIDAU_TOO_LONG;
+        }
+        if (names[at].bytes == NULL) {
+            return PERGIDAU_NULL;
+        }
+    }
+    if (text == NULL) {
+        text = &no_text;
+    }
+    if (nodes == NULL) {
+        nodes = &no_nodes;
+    }
+    if (names == NULL) {
+        names = &no_names;
+    }
+    return (enum pergidau_code)exported_toml_find(text, text_length, nodes, nodes_length, table, names, names_length, out);
 }

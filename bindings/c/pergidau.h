@@ -107,7 +107,9 @@ enum pergidau_code {
      * Impossible dialect: delimiter, quote, carriage return and line feed must be four
      * different bytes, and the line ending one of the constants.
      */
-    PERGIDAU_INVALID_DIALECT = 13
+    PERGIDAU_INVALID_DIALECT = 13,
+    /* Invalid JSON pointer (RFC 6901). */
+    PERGIDAU_INVALID_POINTER = 14
 };
 
 /* The library writes enums as 32 bits: -fshort-enums is not supported. */
@@ -861,6 +863,24 @@ struct pergidau_http_head_state {
     size_t place;
 };
 
+/*
+ * Where a message ends, or why it must be rejected, and whether the connection persists after
+ * it.
+ */
+struct pergidau_http_framing {
+    /* The length of the body, or the reason to reject the message. */
+    struct pergidau_http_body body;
+    /*
+     * The span of what is rejected, for these errors: the target with
+     * PERGIDAU_HTTP_ERROR_INVALID_TARGET, the name of the second Host field with
+     * PERGIDAU_HTTP_ERROR_MANY_HOSTS, and the value of the Host field with
+     * PERGIDAU_HTTP_ERROR_INVALID_HOST. Empty at 0 otherwise.
+     */
+    struct pergidau_span rejected;
+    /* Whether the connection persists after the message; false after an error. */
+    bool persists;
+};
+
 /* The numbers and the places of the parts of the head of a response. */
 struct pergidau_response_head {
     /* The span of the reason phrase. If it is empty, the span is at the end of its line. */
@@ -1214,6 +1234,31 @@ struct pergidau_toml_result {
     size_t unclosed_offset;
     /* The error; PERGIDAU_TOML_ERROR_NONE if there is none. */
     enum pergidau_toml_error error;
+};
+
+/* A date, a time, or both, as numbers. Those of a part that is missing are 0. */
+struct pergidau_toml_date_time_parts {
+    /*
+     * Which parts there are: one of the kinds PERGIDAU_TOML_OFFSET_DATE_TIME to
+     * PERGIDAU_TOML_LOCAL_TIME.
+     */
+    enum pergidau_toml_kind kind;
+    /* The nanosecond of the second, from 0 to 999,999,999. */
+    uint32_t nanosecond;
+    /* The year, from 0 to 9999. */
+    uint16_t year;
+    /* How many minutes the time is ahead of UTC, below zero to the west. */
+    int16_t offset;
+    /* The month, from 1 to 12. */
+    uint8_t month;
+    /* The day, from 1 to the last of its month. */
+    uint8_t day;
+    /* The hour, from 0 to 23. */
+    uint8_t hour;
+    /* The minute, from 0 to 59. */
+    uint8_t minute;
+    /* The second, from 0 to 60, which is a leap second. */
+    uint8_t second;
 };
 
 /*
@@ -1634,7 +1679,9 @@ enum pergidau_code pergidau_http_head_partial(
  * PERGIDAU_HTTP_BODY_LENGTH. The kind is PERGIDAU_HTTP_BODY_NONE, PERGIDAU_HTTP_BODY_CHUNKED
  * or PERGIDAU_HTTP_BODY_LENGTH.
  *
- * A call holds up to 32 bytes of memory for each byte of the head, and does not read after it.
+ * This is the form for callers that do not read the head: it parses the head, and allocates.
+ * If pergidau_http_head has parsed it, pergidau_http_request_framing does neither. A call
+ * holds up to 32 bytes of memory for each byte of the head, and does not read after it.
  *
  * # Errors
  *
@@ -1669,7 +1716,9 @@ enum pergidau_code pergidau_http_request_body(
  * PERGIDAU_DONE: the kind is written, and the length of a body of the kind
  * PERGIDAU_HTTP_BODY_LENGTH.
  *
- * A call holds up to 32 bytes of memory for each byte of the head, and does not read after it.
+ * This is the form for callers that do not read the head: it parses the head, and allocates.
+ * If pergidau_http_response_head has parsed it, pergidau_http_response_framing does neither. A
+ * call holds up to 32 bytes of memory for each byte of the head, and does not read after it.
  *
  * # Errors
  *
@@ -1871,6 +1920,80 @@ enum pergidau_code pergidau_http_field(
     const uint8_t *name,
     size_t name_length,
     size_t *out);
+
+/*
+ * Determines where the request ends whose head pergidau_http_head or
+ * pergidau_http_head_partial wrote for these bytes, or why a server must respond with status
+ * 400 and close the connection, and whether the connection persists. It does not parse the
+ * head again.
+ *
+ * fields has the fields of the head; entries after its number of fields are not read.
+ *
+ * PERGIDAU_DONE: the length of the body is written, by the rules of
+ * pergidau_http_request_body, and whether the connection persists after the request (RFC 9112,
+ * section 9.3): not with the option close in a Connection field; otherwise with HTTP/1.1 or
+ * later, and with HTTP/1.0 and the option keep-alive, which a proxy must ignore. Options are
+ * compared ignoring ASCII case.
+ *
+ * If head and fields are not those of these bytes, the result is that of the bytes at their
+ * positions, as far as these are within bytes. The function does not allocate.
+ *
+ * # Errors
+ *
+ * PERGIDAU_INVALID: the request must be rejected. The reason is written, and if it is the
+ * target or a Host field, its position.
+ *
+ * # Safety
+ *
+ * bytes must be valid for reads of bytes_length bytes, fields for reads of fields_length
+ * entries and head for reads of one head, which must not change during the call. out must be
+ * valid for writes of one framing, and must not overlap the others. The call needs 16 KiB of
+ * stack.
+ */
+enum pergidau_code pergidau_http_request_framing(
+    const uint8_t *bytes,
+    size_t bytes_length,
+    const struct pergidau_field *fields,
+    size_t fields_length,
+    const struct pergidau_head *head,
+    struct pergidau_http_framing *out);
+
+/*
+ * Determines where the response ends whose head pergidau_http_response_head or
+ * pergidau_http_response_head_partial wrote for these bytes, to a request with this method, or
+ * why a client must discard the response and close the connection, and whether the connection
+ * persists. It does not parse the head again.
+ *
+ * fields has the fields of the head; entries after its number of fields are not read.
+ *
+ * PERGIDAU_DONE: the length of the body is written, by the rules of
+ * pergidau_http_response_body, and whether the connection persists after the response, as for
+ * requests. It does not if the body ends with the connection, or the connection has become a
+ * tunnel.
+ *
+ * If head and fields are not those of these bytes, the result is that of the bytes at their
+ * positions, as far as these are within bytes. The function does not allocate.
+ *
+ * # Errors
+ *
+ * PERGIDAU_INVALID: the response must be rejected. The reason is written.
+ *
+ * # Safety
+ *
+ * method must be valid for reads of method_length bytes, bytes for reads of bytes_length
+ * bytes, fields for reads of fields_length entries and head for reads of one head, which must
+ * not change during the call. out must be valid for writes of one framing, and must not
+ * overlap the others. The call needs 16 KiB of stack.
+ */
+enum pergidau_code pergidau_http_response_framing(
+    const uint8_t *method,
+    size_t method_length,
+    const uint8_t *bytes,
+    size_t bytes_length,
+    const struct pergidau_field *fields,
+    size_t fields_length,
+    const struct pergidau_response_head *head,
+    struct pergidau_http_framing *out);
 
 /*
  * Parses the head of an HTTP/1.1 response (RFC 9112) at the start of bytes: a status line,
@@ -2330,6 +2453,69 @@ enum pergidau_code pergidau_json_natural(
     uint64_t *out);
 
 /*
+ * Finds the first member of a name in an object among the nodes that pergidau_json_nodes wrote
+ * for the text. Names are compared with their escapes decoded, as pergidau_json_member does;
+ * also is_token is as there.
+ *
+ * The nodes of the members themselves are visited, whatever these contain, and only names of
+ * the text are read.
+ *
+ * PERGIDAU_DONE: the index of the node of the member's value is written.
+ *
+ * PERGIDAU_END: no member has the name. 0 is written.
+ *
+ * # Errors
+ *
+ * PERGIDAU_INVALID: the node at index is not an object, or there is none. Or, for nodes of
+ * another text, a node precedes the one before it, or a name is not a string in the text. 0 is
+ * written.
+ *
+ * # Safety
+ *
+ * text must be valid for reads of text_length bytes, nodes for reads of nodes_length entries
+ * and name for reads of name_length bytes, which must not change during the call. out must be
+ * valid for writes of one index, and must not overlap the others. The call needs 16 KiB of
+ * stack.
+ */
+enum pergidau_code pergidau_json_node_member(
+    const uint8_t *text,
+    size_t text_length,
+    const struct pergidau_json_node *nodes,
+    size_t nodes_length,
+    size_t index,
+    const uint8_t *name,
+    size_t name_length,
+    uint32_t is_token,
+    size_t *out);
+
+/*
+ * Finds an element of an array, by its position from 0 on, among the nodes that
+ * pergidau_json_nodes wrote. The nodes of the elements before it are visited, whatever these
+ * contain.
+ *
+ * PERGIDAU_DONE: the index of the node of the element is written.
+ *
+ * PERGIDAU_END: the array has no more elements than position. 0 is written.
+ *
+ * # Errors
+ *
+ * PERGIDAU_INVALID: the node at index is not an array, or there is none. Or, for nodes of no
+ * text, a node precedes the one before it. 0 is written.
+ *
+ * # Safety
+ *
+ * nodes must be valid for reads of nodes_length entries, which must not change during the
+ * call. out must be valid for writes of one index, and must not overlap them. The call needs
+ * 16 KiB of stack.
+ */
+enum pergidau_code pergidau_json_node_element(
+    const struct pergidau_json_node *nodes,
+    size_t nodes_length,
+    size_t index,
+    size_t position,
+    size_t *out);
+
+/*
  * Finds the first member of a name in the object (RFC 8259) that bytes starts with, after
  * whitespace, at most one comma or colon, and whitespace. Names are compared with their
  * escapes decoded: {"\u0061": 1} has a member a.
@@ -2416,6 +2602,49 @@ enum pergidau_code pergidau_json_nodes(
     size_t *out);
 
 /*
+ * Finds the value that a JSON pointer (RFC 6901) identifies in a JSON text (RFC 8259) whose
+ * arrays and objects are nested at most max_depth deep: /a~1b/0 is the first element of the
+ * member a/b, and the empty pointer is the value of the text. If names are repeated, the first
+ * is found.
+ *
+ * ~1 is a slash and ~0 a tilde. Names are compared with their escapes decoded. An index is
+ * digits without a leading zero; -, the index after the last element, has no value.
+ *
+ * Each byte is scanned once, and once more for each token of the pointer whose value contains
+ * it. Bytes after the value of the text are not scanned, and bytes of 128 and above are not
+ * checked: so a result is that of the text if pergidau_json_check accepts it.
+ *
+ * PERGIDAU_DONE: the kind of the value and its span are written.
+ *
+ * PERGIDAU_END: there is no such value. The kind and the span of the innermost value that the
+ * pointer reaches are written: an object without the next name, an array without the next
+ * index, or a value that is neither.
+ *
+ * # Errors
+ *
+ * PERGIDAU_INVALID_POINTER: pointer is not a JSON pointer. It is empty or starts with a slash,
+ * and 0 or 1 follows each tilde. Zeros are written.
+ *
+ * PERGIDAU_INVALID: text is not such a JSON text, also if it is incomplete. Zeros are written.
+ * pergidau_json_diagnose reports where and why.
+ *
+ * PERGIDAU_MAX_DEPTH_TOO_LARGE: max_depth is above 512. Zeros are written.
+ *
+ * # Safety
+ *
+ * text must be valid for reads of text_length bytes and pointer for reads of pointer_length
+ * bytes, which must not change during the call. out must be valid for writes of one item, and
+ * must not overlap the others. The call needs 512 KiB of stack.
+ */
+enum pergidau_code pergidau_json_pointer(
+    const uint8_t *text,
+    size_t text_length,
+    size_t max_depth,
+    const uint8_t *pointer,
+    size_t pointer_length,
+    struct pergidau_json_item *out);
+
+/*
  * Finds the next step of a walk through a JSON text (RFC 8259) that was checked, from its
  * start to its end and through all levels. A step is a bracket, a name, or a value that
  * contains no others. It follows whitespace, at most one comma or colon, and whitespace.
@@ -2483,6 +2712,39 @@ enum pergidau_code pergidau_json_string(
     uint8_t *buffer,
     size_t buffer_length,
     struct pergidau_json_text *out);
+
+/*
+ * Writes bytes as a JSON string (RFC 8259), in quotes. A quote, a backslash and the bytes
+ * below 32 are escaped as in RFC 8785, section 3.2.2.2: by \", \\, \b, \f, \n, \r, \t, or \u00
+ * and two digits with small letters. All other bytes are unchanged.
+ *
+ * The string is JSON if the bytes are UTF-8, which is not checked. It has at most six bytes
+ * for each byte, and two more. pergidau_json_string reads the same bytes from it, whatever
+ * follows.
+ *
+ * PERGIDAU_DONE: the string is written at the start of buffer, and its length into out. The
+ * other bytes of the buffer are unchanged.
+ *
+ * The function does not allocate. It scans the bytes twice, so that it writes nothing if the
+ * buffer is too small.
+ *
+ * # Errors
+ *
+ * PERGIDAU_BUFFER_TOO_SMALL: the string is longer than the buffer. Its length is written, and
+ * the buffer is unchanged.
+ *
+ * # Safety
+ *
+ * bytes must be valid for reads of bytes_length bytes, which must not change during the call.
+ * buffer must be valid for writes of buffer_length bytes, and out for writes of one length.
+ * None of these may overlap. The call needs 16 KiB of stack.
+ */
+enum pergidau_code pergidau_json_write_string(
+    const uint8_t *bytes,
+    size_t bytes_length,
+    uint8_t *buffer,
+    size_t buffer_length,
+    size_t *out);
 
 /*
  * Parses a line of the form key=value. For lines of INI files, use pergidau_ini_next.
@@ -2789,6 +3051,33 @@ enum pergidau_code pergidau_text_position(
     struct pergidau_position *out);
 
 /*
+ * Converts the text of a decimal number to the nearest double; of two, the one whose last bit
+ * is 0. This includes floats of TOML as a node has them, numbers of JSON, and doubles of
+ * Redis. It does not depend on the locale.
+ *
+ * The text is a sign or none, and digits with a point before, between or after them or none,
+ * and an exponent or none: e or E, a sign or none, and digits. Or it is inf, infinity or nan
+ * after a sign or none, in letters of either case.
+ *
+ * PERGIDAU_DONE: the double is written. A number that is too large gives an infinity, and one
+ * that is nearer to 0 than to other doubles a zero with its sign.
+ *
+ * # Errors
+ *
+ * PERGIDAU_INVALID: the bytes are not such a text. 0 is written.
+ *
+ * # Safety
+ *
+ * bytes must be valid for reads of bytes_length bytes, which must not change during the call,
+ * and out must be valid for writes of one double. They must not overlap. The call needs 16 KiB
+ * of stack.
+ */
+enum pergidau_code pergidau_text_double(
+    const uint8_t *bytes,
+    size_t bytes_length,
+    double *out);
+
+/*
  * Parses a document of TOML 1.0 (toml.io/en/v1.0.0) whose tables and arrays are nested at most
  * max_depth deep. [a] and a.b = 1 nest a table in the root table, one level deep.
  *
@@ -2840,6 +3129,86 @@ enum pergidau_code pergidau_toml_document(
     struct pergidau_toml_node *nodes,
     size_t nodes_length,
     struct pergidau_toml_result *out);
+
+/*
+ * Converts the text of a date, a time or both to numbers. It is a date-time of TOML 1.0, as
+ * 1979-05-27T00:32:00.999999-07:00, so each timestamp of RFC 3339 is one. Date and time are
+ * separated by T, t or a space. The day exists in its month. A second of 60 is accepted in
+ * each minute. Digits of a fraction after the ninth are cut off.
+ *
+ * PERGIDAU_DONE: the numbers are written. The kind tells which parts there are: those of a
+ * part that is missing are 0.
+ *
+ * A call holds up to 4 bytes of memory for each byte of a fraction.
+ *
+ * # Errors
+ *
+ * PERGIDAU_INVALID: the bytes are not a date, a time or both. Zeros are written.
+ *
+ * PERGIDAU_NO_MEMORY: the digits of a fraction could not be copied. Zeros are written.
+ *
+ * # Safety
+ *
+ * bytes must be valid for reads of bytes_length bytes, which must not change during the call,
+ * and out must be valid for writes of one date-time. They must not overlap. The call needs 16
+ * KiB of stack.
+ */
+enum pergidau_code pergidau_toml_date_time(
+    const uint8_t *bytes,
+    size_t bytes_length,
+    struct pergidau_toml_date_time_parts *out);
+
+/*
+ * Converts the digits of the fraction of a second to nanoseconds: those that a node of a time
+ * has in the text. Digits after the ninth are cut off.
+ *
+ * PERGIDAU_DONE: the nanoseconds are written, from 0 to 999,999,999. Without digits, they are
+ * 0.
+ *
+ * # Errors
+ *
+ * PERGIDAU_INVALID: not all bytes are digits. 0 is written.
+ *
+ * # Safety
+ *
+ * digits must be valid for reads of digits_length bytes, which must not change during the
+ * call, and out must be valid for writes of one number. They must not overlap. The call needs
+ * 16 KiB of stack.
+ */
+enum pergidau_code pergidau_toml_nanosecond(
+    const uint8_t *digits,
+    size_t digits_length,
+    uint32_t *out);
+
+/*
+ * Finds what a TOML document has at a path of names: the value of the key server.port along
+ * the names server and port. text and nodes are those that pergidau_toml_document wrote for
+ * it, with the sizes that it reported. The path starts in the node of number table; the first
+ * node, of number 0, is the root table.
+ *
+ * PERGIDAU_DONE: the number of the node is written. Without names it is table.
+ *
+ * PERGIDAU_END: there is nothing at the path, or no node has the number table. 0 is written.
+ *
+ * A call looks at each entry that precedes the one of each name in its table. In other nodes
+ * it may find another node, or none.
+ *
+ * # Safety
+ *
+ * text must be valid for reads of text_length bytes, nodes for reads of nodes_length entries,
+ * names for reads of names_length entries, and the bytes of each name for reads of its length.
+ * They must not change during the call. out must be valid for writes of one number, and must
+ * not overlap the others. The call needs 16 KiB of stack.
+ */
+enum pergidau_code pergidau_toml_find(
+    const uint8_t *text,
+    size_t text_length,
+    const struct pergidau_toml_node *nodes,
+    size_t nodes_length,
+    size_t table,
+    const struct pergidau_bytes *names,
+    size_t names_length,
+    size_t *out);
 
 #ifdef __cplusplus
 }

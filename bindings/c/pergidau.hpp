@@ -2,7 +2,7 @@
 /*
  * The functions of pergidau.h for C++17 and later, in the namespace pergidau, without the prefix of
  * their names. Each calls the function in C and does nothing else. pergidau.h documents them, and
- * has the types and constants. Only json_double, at the end, has no function in C.
+ * has the types and constants.
  *
  * Bytes to read are passed as an input, to which texts and containers of bytes convert, and buffers
  * to write as a view of a container. The result has the code, and in value what the function in C
@@ -18,10 +18,6 @@
 #include <string_view>
 #include <type_traits>
 #include <utility>
-
-#if __has_include(<charconv>)
-#include <charconv>
-#endif
 
 #include "pergidau.h"
 
@@ -401,6 +397,40 @@ inline result<std::size_t> http_field(
 }
 
 /*
+ * Determines where the request ends whose head http_head or http_head_partial wrote for these
+ * bytes, or why a server must respond with status 400 and close the connection, and whether the
+ * connection persists.
+ */
+inline result<pergidau_http_framing> http_request_framing(
+    input bytes,
+    view<const pergidau_field> fields,
+    const pergidau_head &head) noexcept
+{
+    result<pergidau_http_framing> out{};
+    out.code = pergidau_http_request_framing(
+        bytes.data(), bytes.size(), fields.data(), fields.size(), &head, &out.value);
+    return out;
+}
+
+/*
+ * Determines where the response ends whose head http_response_head or http_response_head_partial
+ * wrote for these bytes, to a request with this method, or why a client must discard the
+ * response and close the connection, and whether the connection persists.
+ */
+inline result<pergidau_http_framing> http_response_framing(
+    input method,
+    input bytes,
+    view<const pergidau_field> fields,
+    const pergidau_response_head &head) noexcept
+{
+    result<pergidau_http_framing> out{};
+    out.code = pergidau_http_response_framing(
+        method.data(), method.size(), bytes.data(), bytes.size(), fields.data(), fields.size(),
+        &head, &out.value);
+    return out;
+}
+
+/*
  * Parses the head of an HTTP/1.1 response (RFC 9112) at the start of bytes: a status line, field
  * lines, and an empty line.
  */
@@ -549,6 +579,38 @@ inline result<std::uint64_t> json_natural(input bytes) noexcept
 }
 
 /*
+ * Finds the first member of a name in an object among the nodes that json_nodes wrote for the
+ * text.
+ */
+inline result<std::size_t> json_node_member(
+    input text,
+    view<const pergidau_json_node> nodes,
+    std::size_t index,
+    input name,
+    std::uint32_t is_token) noexcept
+{
+    result<std::size_t> out{};
+    out.code = pergidau_json_node_member(
+        text.data(), text.size(), nodes.data(), nodes.size(), index, name.data(), name.size(),
+        is_token, &out.value);
+    return out;
+}
+
+/*
+ * Finds an element of an array, by its position from 0 on, among the nodes that json_nodes
+ * wrote.
+ */
+inline result<std::size_t> json_node_element(
+    view<const pergidau_json_node> nodes,
+    std::size_t index,
+    std::size_t position) noexcept
+{
+    result<std::size_t> out{};
+    out.code = pergidau_json_node_element(nodes.data(), nodes.size(), index, position, &out.value);
+    return out;
+}
+
+/*
  * Finds the first member of a name in the object (RFC 8259) that bytes starts with, after
  * whitespace, at most one comma or colon, and whitespace.
  */
@@ -580,6 +642,22 @@ inline result<std::size_t> json_nodes(
 }
 
 /*
+ * Finds the value that a JSON pointer (RFC 6901) identifies in a JSON text (RFC 8259) whose
+ * arrays and objects are nested at most max_depth deep: /a~1b/0 is the first element of the
+ * member a/b, and the empty pointer is the value of the text.
+ */
+inline result<pergidau_json_item> json_pointer(
+    input text,
+    std::size_t max_depth,
+    input pointer) noexcept
+{
+    result<pergidau_json_item> out{};
+    out.code = pergidau_json_pointer(
+        text.data(), text.size(), max_depth, pointer.data(), pointer.size(), &out.value);
+    return out;
+}
+
+/*
  * Finds the next step of a walk through a JSON text (RFC 8259) that was checked, from its start
  * to its end and through all levels.
  */
@@ -598,6 +676,15 @@ inline result<pergidau_json_text> json_string(input bytes, output buffer) noexce
 {
     result<pergidau_json_text> out{};
     out.code = pergidau_json_string(
+        bytes.data(), bytes.size(), buffer.data(), buffer.size(), &out.value);
+    return out;
+}
+
+/* Writes bytes as a JSON string (RFC 8259), in quotes. */
+inline result<std::size_t> json_write_string(input bytes, output buffer) noexcept
+{
+    result<std::size_t> out{};
+    out.code = pergidau_json_write_string(
         bytes.data(), bytes.size(), buffer.data(), buffer.size(), &out.value);
     return out;
 }
@@ -700,6 +787,17 @@ inline result<pergidau_position> text_position(input bytes, std::size_t offset) 
 }
 
 /*
+ * Converts the text of a decimal number to the nearest double; of two, the one whose last bit is
+ * 0.
+ */
+inline result<double> text_double(input bytes) noexcept
+{
+    result<double> out{};
+    out.code = pergidau_text_double(bytes.data(), bytes.size(), &out.value);
+    return out;
+}
+
+/*
  * Parses a document of TOML 1.0 (toml.io/en/v1.0.0) whose tables and arrays are nested at most
  * max_depth deep.
  */
@@ -716,34 +814,42 @@ inline result<pergidau_toml_result> toml_document(
     return out;
 }
 
-#ifdef __cpp_lib_to_chars
-/*
- * Returns the nearest double of the JSON number that bytes starts with; of two, the one whose last
- * bit is 0. It does not depend on the locale. std::from_chars converts the number, so this is not
- * proved, and is here only if the standard library has it for doubles, as that of gcc 11 and later.
- *
- * PERGIDAU_OUT_OF_RANGE: the number is too large, or nearer to 0 than to other doubles, but not 0.
- * The value is 0.
- *
- * PERGIDAU_INVALID: bytes does not start with a number. The value is 0.
- */
-inline result<double> json_double(input bytes) noexcept
+/* Converts the text of a date, a time or both to numbers. */
+inline result<pergidau_toml_date_time_parts> toml_date_time(input bytes) noexcept
 {
-    result<double> out{PERGIDAU_INVALID, 0};
-    std::size_t length = 0;
-    if (bytes.size() > 0 && (bytes[0] == '-' || (bytes[0] >= '0' && bytes[0] <= '9'))) {
-        out.code = pergidau_json_value(bytes.data(), bytes.size(), 0, &length);
-    }
-    if (out.code == PERGIDAU_DONE) {
-        const char *const first = text(bytes).data();
-        if (std::from_chars(first, first + length, out.value).ec != std::errc()) {
-            out = {PERGIDAU_OUT_OF_RANGE, 0};
-        }
-    }
+    result<pergidau_toml_date_time_parts> out{};
+    out.code = pergidau_toml_date_time(bytes.data(), bytes.size(), &out.value);
     return out;
 }
 
-#endif
+/*
+ * Converts the digits of the fraction of a second to nanoseconds: those that a node of a time
+ * has in the text.
+ */
+inline result<std::uint32_t> toml_nanosecond(input digits) noexcept
+{
+    result<std::uint32_t> out{};
+    out.code = pergidau_toml_nanosecond(digits.data(), digits.size(), &out.value);
+    return out;
+}
+
+/*
+ * Finds what a TOML document has at a path of names: the value of the key server.port along the
+ * names server and port.
+ */
+inline result<std::size_t> toml_find(
+    input text,
+    view<const pergidau_toml_node> nodes,
+    std::size_t table,
+    view<const pergidau_bytes> names) noexcept
+{
+    result<std::size_t> out{};
+    out.code = pergidau_toml_find(
+        text.data(), text.size(), nodes.data(), nodes.size(), table, names.data(), names.size(),
+        &out.value);
+    return out;
+}
+
 } // namespace pergidau
 
 #endif

@@ -2,8 +2,8 @@
 //
 //     http_heads < requests.http
 //
-// Each byte is scanned once, however it arrives. Exits with 1 at an invalid head, or one that is
-// not complete.
+// Each byte is scanned once, however it arrives, and each head is parsed once. Exits with 1 at an
+// invalid head, or one that is not complete.
 #include <iostream>
 #include <string>
 #include <vector>
@@ -12,8 +12,8 @@
 
 namespace http = pergidau;
 
-// Prints a head. Returns how many bytes its body has, if the request is valid.
-static http::result<pergidau_http_body> show(std::string_view bytes)
+// Prints a head. Returns where the request ends, if it is valid.
+static http::result<pergidau_http_framing> show(std::string_view bytes)
 {
     std::vector<pergidau_field> fields(4);
     auto head = http::http_head(bytes, fields);
@@ -27,7 +27,7 @@ static http::result<pergidau_http_body> show(std::string_view bytes)
         std::cout << "    " << http::text(bytes, field.name) << ": "
                   << http::text(bytes, field.value) << '\n';
     }
-    return http::http_request_body(bytes);
+    return http::http_request_framing(bytes, fields, *head);
 }
 
 // Prints why the bytes are not a head.
@@ -59,11 +59,13 @@ int main()
             return fail(held);
         }
         const auto found = show(held);
-        if (!found || found->kind == PERGIDAU_HTTP_BODY_CHUNKED) {
-            std::cout << (found ? "chunked body" : http::http_error_message(found->error)) << '\n';
+        const bool is_chunked = found->body.kind == PERGIDAU_HTTP_BODY_CHUNKED;
+        if (!found || is_chunked) {
+            std::cout << (found ? "chunked body" : http::http_error_message(found->body.error))
+                      << ' ' << http::text(held, found->rejected) << '\n';
             return 1;
         }
-        body = *found;
+        body = found->body;
         held.clear();
         state = {};
     }

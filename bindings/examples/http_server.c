@@ -1,7 +1,8 @@
 /*
  * An HTTP/1.1 server for one connection, over the standard input and output. `GET /hello` greets, and
  * `POST /echo` returns its body, which may be chunked. Requests whose end is ambiguous are rejected, and
- * then the connection ends. Its time is linear in the input, in chunks of any size.
+ * then the connection ends. Its time is linear in the input, in chunks of any size, and each head is
+ * parsed once.
  */
 #include <stdbool.h>
 #include <stdio.h>
@@ -11,7 +12,7 @@
 
 #include "pergidau.h"
 
-enum { ROOM = 4096, MOST_FIELDS = 16 };
+enum { ROOM = 4096, MOST_FIELDS = 16, MOST_OTHERS = 16384 };
 
 static uint8_t input[ROOM], body[ROOM];
 static size_t input_length, body_length;
@@ -33,8 +34,8 @@ static void drop(size_t count)
 /* Sends a response. Returns whether the connection stays open. */
 static bool answer(const char *status, const void *text, size_t length, bool keeps)
 {
-    const char *connection = keeps ? "" : "Connection: close\r\n";
-    printf("HTTP/1.1 %s\r\nContent-Length: %zu\r\n%s\r\n", status, length, connection);
+    const char *connection = keeps ? "keep-alive" : "close";
+    printf("HTTP/1.1 %s\r\nContent-Length: %zu\r\nConnection: %s\r\n\r\n", status, length, connection);
     fwrite(text, 1, length, stdout);
     return fflush(stdout) == 0 && keeps;
 }
@@ -80,6 +81,9 @@ static bool read_counted(uint64_t left)
 static bool read_chunked(void)
 {
     struct pergidau_chunked_state state = {0};
+    /* A chunk may have one byte of data, and a long extension: the limits of the decoder are for each
+     * chunk, so the sum of bytes that are not data has a limit here. */
+    size_t taken = 0;
     for (;;) {
         struct pergidau_chunked_step step;
         enum pergidau_code code = pergidau_http_chunked(&state, input, input_length, &step);
@@ -91,6 +95,10 @@ static bool read_chunked(void)
                 return reject("413 Content Too Large", "");
             }
             append(step.span.offset, step.span.length);
+        }
+        taken += step.taken;
+        if (taken - body_length > MOST_OTHERS) {
+            return reject("413 Content Too Large", "");
         }
         drop(step.taken);
         if (code == PERGIDAU_END || (code == PERGIDAU_INCOMPLETE && !more())) {
@@ -104,12 +112,12 @@ static bool serve(size_t length)
 {
     struct pergidau_field fields[MOST_FIELDS];
     struct pergidau_head head;
-    struct pergidau_http_body found;
+    struct pergidau_http_framing found;
     if (pergidau_http_head(input, length, fields, MOST_FIELDS, &head) != PERGIDAU_DONE) {
         return reject("431 Request Header Fields Too Large", "");
     }
-    if (pergidau_http_request_body(input, length, &found) != PERGIDAU_DONE) {
-        return reject("400 Bad Request", pergidau_http_error_message(found.error));
+    if (pergidau_http_request_framing(input, length, fields, MOST_FIELDS, &head, &found) != PERGIDAU_DONE) {
+        return reject("400 Bad Request", pergidau_http_error_message(found.body.error));
     }
     if (head.major != 1) {
         return reject("505 HTTP Version Not Supported", "");
@@ -118,16 +126,16 @@ static bool serve(size_t length)
         return reject("501 Not Implemented", "");
     }
     body_length = 0;
-    bool keeps = head.minor > 0 && !differs(fields, head.fields, "Connection", "keep-alive");
     bool hello = is(head.method, "GET") && is(head.target, "/hello");
     bool echo = is(head.method, "POST") && is(head.target, "/echo");
     drop(length);
-    if (!(found.kind == PERGIDAU_HTTP_BODY_CHUNKED ? read_chunked() : read_counted(found.length))) {
+    bool is_chunked = found.body.kind == PERGIDAU_HTTP_BODY_CHUNKED;
+    if (!(is_chunked ? read_chunked() : read_counted(found.body.length))) {
         return false;
     }
-    return hello ? answer("200 OK", "hello\n", 6, keeps)
-        : echo   ? answer("200 OK", body, body_length, keeps)
-                 : answer("404 Not Found", "", 0, keeps);
+    return hello ? answer("200 OK", "hello\n", 6, found.persists)
+        : echo   ? answer("200 OK", body, body_length, found.persists)
+                 : answer("404 Not Found", "", 0, found.persists);
 }
 
 int main(void)

@@ -1,8 +1,10 @@
-/* Writes the TOML document on standard input as JSON:
+/* Writes the TOML document on standard input, or its value along names, as JSON:
  *
  *     toml_to_json < example.toml
+ *     toml_to_json servers alpha ip < example.toml
  *
- * Dates, times, inf and nan are strings. Exits with 1 if it is not a document, with the reason. */
+ * Dates, times, inf and nan are strings. Exits with 1 if it is not a document, or has no such value,
+ * with the reason. */
 #include <stdio.h>
 #include <stdlib.h>
 #include <string.h>
@@ -85,25 +87,31 @@ static void write_value(size_t number)
     }
 }
 
-int main(void)
+int main(int count, char **words)
 {
+    size_t at = 0;
     struct pergidau_toml_result sizes;
     struct pergidau_position place;
     size_t length = fread(input, 1, sizeof input, stdin);
     enum pergidau_code code =
         pergidau_toml_document(input, length, MOST_DEPTH, NULL, 0, NULL, 0, &sizes);
     if (code == PERGIDAU_BUFFER_TOO_SMALL) {
-        size_t count = sizes.nodes, bytes = sizes.text;
-        text = malloc(bytes + 1);
-        nodes = malloc(count * sizeof *nodes);
+        text = malloc(sizes.text + 1);
+        nodes = malloc(sizes.nodes * sizeof *nodes);
         if (!text || !nodes) {
             return 2;
         }
-        code = pergidau_toml_document(input, length, MOST_DEPTH, text, bytes, nodes, count, &sizes);
+        code = pergidau_toml_document(input, length, MOST_DEPTH, text, sizes.text, nodes, sizes.nodes, &sizes);
+    }
+    for (int i = 1; i < count && code == PERGIDAU_DONE; i++) {
+        struct pergidau_bytes name = {(const uint8_t *)words[i], strlen(words[i])};
+        code = pergidau_toml_find(text, sizes.text, nodes, sizes.nodes, at, &name, 1, &at);
     }
     if (code == PERGIDAU_DONE) {
-        write_value(0);
+        write_value(at);
         putchar('\n');
+    } else if (code == PERGIDAU_END) {
+        printf("no such value\n");
     } else {
         pergidau_text_position(input, length, sizes.error_offset, &place);
         printf("line %zu, column %zu: %s\n", place.line, place.column,

@@ -136,6 +136,49 @@ static void body_by_hand(const uint8_t *bytes, const struct pergidau_head *head,
     }
 }
 
+/* Whether a Connection field has the option (RFC 9110, section 7.6.1). */
+static bool has_option(const uint8_t *bytes, const struct pergidau_field *fields, size_t count, const char *option)
+{
+    for (size_t i = 0; i < count; i++) {
+        struct pergidau_span list = fields[i].value, element;
+        while (is_word(bytes, fields[i].name, "connection") && next_element(bytes, &list, &element, false)) {
+            if (is_word(bytes, element, option)) {
+                return true;
+            }
+        }
+    }
+    return false;
+}
+
+/* The framing of a request whose head was read: as without it, with what is rejected, and whether the
+ * connection persists (RFC 9112, section 9.3). */
+static void read_framing(const uint8_t *bytes, size_t length, const struct pergidau_head *head,
+                         const struct pergidau_field *fields, const struct pergidau_http_body *want)
+{
+    struct pergidau_http_framing out;
+    enum pergidau_code code = pergidau_http_request_framing(bytes, length, fields, MOST_FIELDS, head, &out);
+    struct pergidau_span hosts[2] = {{0, 0}, {0, 0}}, at = {0, 0}, value = at;
+    size_t count = 0;
+    for (size_t i = 0; i < head->fields; i++) {
+        if (is_word(bytes, fields[i].name, "host") && count < 2) {
+            hosts[count++] = fields[i].name;
+            value = fields[i].value;
+        }
+    }
+    at = want->error == PERGIDAU_HTTP_ERROR_INVALID_TARGET ? head->target
+        : want->error == PERGIDAU_HTTP_ERROR_MANY_HOSTS    ? hosts[1]
+        : want->error == PERGIDAU_HTTP_ERROR_INVALID_HOST  ? value
+                                                           : at;
+    bool close = has_option(bytes, fields, head->fields, "close");
+    bool keep = has_option(bytes, fields, head->fields, "keep-alive");
+    bool later = head->major > 1 || (head->major == 1 && head->minor > 0);
+    bool persists = !close && (later || (head->major == 1 && keep));
+    HOLDS(code == (want->error ? PERGIDAU_INVALID : PERGIDAU_DONE));
+    HOLDS(out.body.kind == want->kind && out.body.error == want->error && out.body.length == want->length);
+    HOLDS(out.rejected.offset == at.offset && out.rejected.length == at.length);
+    HOLDS(out.persists == (!want->error && persists));
+}
+
 static void read_body(const uint8_t *bytes, size_t length)
 {
     struct pergidau_http_body out, want = {PERGIDAU_HTTP_BODY_NONE, PERGIDAU_HTTP_ERROR_HEAD, 0};
@@ -148,6 +191,7 @@ static void read_body(const uint8_t *bytes, size_t length)
     }
     if (found == PERGIDAU_DONE) {
         body_by_hand(bytes, &head, fields, &want);
+        read_framing(bytes, length, &head, fields, &want);
         for (size_t i = 0; i < head.fields; i++) {
             size_t index = 0, first = 0;
             struct pergidau_span name = fields[i].name;

@@ -3,6 +3,8 @@
 #ifndef BODIES_ROWS_H
 #define BODIES_ROWS_H
 
+#include "framing_rows.h"
+
 /* The fields of a POST request of HTTP/1.1 with a Host field, and the result. */
 static const struct {
     const char *fields;
@@ -84,19 +86,10 @@ static const struct {
     {"HEAD", "GET / HTTP/1.1\r\n\r\n", PERGIDAU_HTTP_BODY_NONE, PERGIDAU_HTTP_ERROR_HEAD, 0},
 };
 
-static void same_body(const char *row, enum pergidau_code code, const struct pergidau_http_body *out,
-                      enum pergidau_http_body_kind kind, enum pergidau_http_error error, uint64_t length)
-{
-    same("a body", row, code,
-         error == PERGIDAU_HTTP_ERROR_NONE ? PERGIDAU_DONE : PERGIDAU_INVALID);
-    same("its kind", row, out->kind, kind);
-    same("its error", row, out->error, error);
-    same("its length", row, out->length == length, 1);
-}
-
 static void test_body_lengths(void)
 {
     struct pergidau_http_body out;
+    struct pergidau_http_framing framing;
     for (size_t i = 0; i < sizeof request_bodies / sizeof *request_bodies; i++) {
         char head[256];
         const char *fields = request_bodies[i].fields;
@@ -104,6 +97,10 @@ static void test_body_lengths(void)
         uint8_t *bytes = copied(head, length);
         same_body(fields, pergidau_http_request_body(bytes, length, &out), &out,
                   request_bodies[i].kind, request_bodies[i].error, request_bodies[i].length);
+        if (request_bodies[i].error != PERGIDAU_HTTP_ERROR_HEAD) {
+            same_body(fields, request_framing(fields, bytes, length, &framing), &framing.body,
+                      request_bodies[i].kind, request_bodies[i].error, request_bodies[i].length);
+        }
         same_body(fields, pergidau_http_request_body(bytes, length - 1, &out), &out,
                   PERGIDAU_HTTP_BODY_NONE, PERGIDAU_HTTP_ERROR_HEAD, 0);
         free(bytes);
@@ -113,6 +110,8 @@ static void test_body_lengths(void)
         uint8_t *bytes = copied(head, strlen(head));
         same_body(head, pergidau_http_request_body(bytes, strlen(head), &out), &out,
                   PERGIDAU_HTTP_BODY_NONE, request_heads[i].error, 0);
+        same_body(head, request_framing(head, bytes, strlen(head), &framing), &framing.body,
+                  PERGIDAU_HTTP_BODY_NONE, request_heads[i].error, 0);
         free(bytes);
     }
     for (size_t i = 0; i < sizeof response_bodies / sizeof *response_bodies; i++) {
@@ -120,6 +119,12 @@ static void test_body_lengths(void)
         uint8_t *bytes = copied(head, strlen(head)), *word = copied(method, strlen(method));
         same_body(head, pergidau_http_response_body(word, strlen(method), bytes, strlen(head), &out),
                   &out, response_bodies[i].kind, response_bodies[i].error, response_bodies[i].length);
+        if (response_bodies[i].error != PERGIDAU_HTTP_ERROR_HEAD) {
+            same_body(head, response_framing(head, word, strlen(method), bytes, strlen(head), &framing),
+                      &framing.body, response_bodies[i].kind, response_bodies[i].error,
+                      response_bodies[i].length);
+            same_span(head, framing.rejected, nowhere);
+        }
         free(bytes);
         free(word);
     }

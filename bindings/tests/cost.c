@@ -58,18 +58,21 @@ void *__wrap_realloc(void *block, size_t size)
     return grown;
 }
 
-enum call { CALC, PAIR, DOCUMENT, ENTRY, LOOKUP, CHECK, VALUE, NEXT, STEP, STRING, INTEGER, NATURAL, DECIMAL, DIAGNOSE, MEMBER, NODES, VALUE_EXTENT, HEAD,
-            HEAD_IN_PIECES, HEAD_EXTENT, REQUEST_BODY, FIELD, RESPONSE, RESPONSE_IN_PIECES, RESPONSE_EXTENT, RECORD, RECORD_IN_PIECES,
+enum call { CALC, PAIR, DOCUMENT, ENTRY, LOOKUP, CHECK, VALUE, NEXT, STEP, STRING, INTEGER, NATURAL, DECIMAL, DIAGNOSE, MEMBER, NODES, POINTER, NODE_MEMBER, NODE_ELEMENT, JSON_WRITE, VALUE_EXTENT, HEAD,
+            HEAD_IN_PIECES, HEAD_EXTENT, REQUEST_BODY, REQUEST_FRAMING, RESPONSE_FRAMING, FIELD, RESPONSE, RESPONSE_IN_PIECES, RESPONSE_EXTENT, RECORD, RECORD_IN_PIECES,
             RECORD_EXTENT, CSV_WRITE, REPLY, REPLY_IN_PIECES, EXTENT, RESP_NODES, COMMAND, CHUNKED, POSITION,
-            TOML, DNS_HEADER, DNS_NAME, DNS_QUESTION, DNS_RECORD };
+            TOML, DATE_TIME, NANOSECOND, FIND, DOUBLE, DNS_HEADER, DNS_NAME, DNS_QUESTION, DNS_RECORD };
 static const char *const names[] = {
     "calc_value", "pair_line", "pair_document", "ini_next", "ini_get", "json_check", "json_value", "json_next",
     "json_step", "json_string", "json_integer", "json_natural", "json_decimal", "json_diagnose",
-    "json_member", "json_nodes", "json_extent", "http_head", "http_head_partial",
-    "http_head_extent", "http_request_body", "http_field", "http_response_head", "http_response_head_partial",
+    "json_member", "json_nodes", "json_pointer", "json_node_member",
+    "json_node_element", "json_write_string", "json_extent", "http_head", "http_head_partial",
+    "http_head_extent", "http_request_body", "http_request_framing", "http_response_framing",
+    "http_field", "http_response_head", "http_response_head_partial",
     "http_response_head_extent", "csv_record",
     "csv_record_partial", "csv_record_extent", "csv_write", "resp_reply", "resp_reply_partial",
     "resp_extent", "resp_nodes", "resp_command", "http_chunked", "text_position", "toml_document",
+    "toml_date_time", "toml_nanosecond", "toml_find", "text_double",
     "dns_message_header", "dns_name_at", "dns_question_at", "dns_record_at",
 };
 
@@ -126,6 +129,11 @@ static const struct {
     {MEMBER, "{\"b\":", "[", "", LENGTH, 0, 512},
     {MEMBER, "{", "\"a\":1,", "", LENGTH / 6, 0, 512},
     {MEMBER, "{\"", "\\u0061", "\":1}", LENGTH / 6, 0, 512},
+    {POINTER, "{\"b\":", "[", "", LENGTH, 0, 512},
+    {POINTER, "{", "\"b\":1,", "\"a\":2}", LENGTH / 6, 0, 512},
+    {NODE_MEMBER, "\"", "\\u0061", "\"", LENGTH / 6, 0, 16},
+    {NODE_ELEMENT, "", "[", "", LENGTH, 0, 16},
+    {JSON_WRITE, "", "\1", "", LENGTH, 0, 16},
     {HEAD, "GET / HTTP/1.1\r\n", "a:\r\n", "\r\n", LENGTH / 4, 0, 16},
     {HEAD, "GET / HTTP/1.1\r\na: ", "b", "\r\n\r\n", LENGTH, 0, 16},
     {HEAD, "GET / HTTP/1.1\r\n", "a:\r\n", "", POWER + 1, 0, 16},
@@ -138,6 +146,8 @@ static const struct {
     {REQUEST_BODY, "A b HTTP/1.1\r\nhost:\r\n", "a:\r\n", "\r\n", POWER + 1, 32, 16},
     {REQUEST_BODY, "A b HTTP/1.1\r\nhost:\r\ncontent-length:", "5,", "5\r\n\r\n", LENGTH / 2, 32, 16},
     {REQUEST_BODY, "A b HTTP/1.1\r\nhost:\r\ntransfer-encoding:", "a,", "chunked\r\n\r\n", LENGTH / 2, 32, 16},
+    {REQUEST_FRAMING, "/transfer-encoding", "a,", "chunked", LENGTH / 2, 0, 16},
+    {RESPONSE_FRAMING, "/transfer-encoding", "a;b=\",\",", "chunked", LENGTH / 8, 0, 16},
     {FIELD, "", "a", "", LENGTH, 0, 16},
     {RESPONSE, "HTTP/1.1 200 ", "b", "\r\n\r\n", LENGTH, 0, 16},
     {RESPONSE_IN_PIECES, "HTTP/1.1 200\r\n", "a:\r\n", "", POWER + 1, 0, 16},
@@ -176,6 +186,12 @@ static const struct {
     {CHUNKED, "0\r\na:", "b", "\r\n\r\n", LENGTH, 0, 16},
     {CHUNKED, "ffffff\r\n", "b", "", LENGTH, 0, 16},
     {POSITION, "", "\xc3\xa9\n", "", LENGTH / 3, 0, 16},
+    {DATE_TIME, "00:00:00.", "5", "", LENGTH, 4, 16},
+    {DATE_TIME, "00:00:00.", "5", "", POWER + 1, 4, 16},
+    {NANOSECOND, "", "5", "", LENGTH, 0, 16},
+    {FIND, "", "a", "", LENGTH, 0, 16},
+    {DOUBLE, "0.", "5", "", LENGTH, 0, 16},
+    {DOUBLE, "1e", "9", "", LENGTH, 0, 16},
     {TOML, "", "\n", "", POWER + 1, 600, 1024},
     {TOML, "a=", "[", "", LENGTH, 600, 1024},
     {TOML, "a=", "{a=", "", LENGTH / 3, 600, 1024},
@@ -218,6 +234,11 @@ static enum pergidau_code call(enum call which, size_t max_depth)
     struct pergidau_http_head_state passed = {0};
     struct pergidau_http_body body;
     struct pergidau_field field = {{0, length}, {0, 0}};
+    /* A head whose target is the first byte, and whose field has a name of 17 bytes. */
+    const struct pergidau_head framed = {.target = {0, 1}, .fields = 1, .major = 2};
+    const struct pergidau_response_head answered = {.fields = 1, .status = 200, .major = 2};
+    const struct pergidau_field coding = {{1, 17}, {18, length - 18}};
+    struct pergidau_http_framing framing;
     struct pergidau_response_head response;
     struct pergidau_record record;
     struct pergidau_csv_record_state fields = {0};
@@ -230,11 +251,19 @@ static enum pergidau_code call(enum call which, size_t max_depth)
     struct pergidau_chunked_step step;
     struct pergidau_position position;
     struct pergidau_toml_result toml;
+    struct pergidau_toml_date_time_parts parts;
+    struct pergidau_toml_node table[2] = {{.first = 1}, {.name = {0, length}}};
+    uint32_t nanosecond;
+    double real;
     struct pergidau_dns_header header;
     struct pergidau_dns_name name;
     struct pergidau_dns_question question;
     struct pergidau_dns_record resource;
     struct pergidau_bytes slice = {bytes, length};
+    const struct pergidau_json_node named[] = {{PERGIDAU_JSON_OBJECT, 0, 0, 3}, {PERGIDAU_JSON_NAME, 0, 0, 2},
+                                               {PERGIDAU_JSON_NULL, 0, 0, 3}};
+    const struct pergidau_json_node listed[] = {{PERGIDAU_JSON_ARRAY, 0, 0, 3}, {PERGIDAU_JSON_NULL, 0, 0, 2},
+                                                {PERGIDAU_JSON_NULL, 0, 0, 3}};
     size_t found;
     switch (which) {
     case CALC:
@@ -270,6 +299,14 @@ static enum pergidau_code call(enum call which, size_t max_depth)
         return pergidau_json_member(bytes, length, max_depth, bytes, length, 0, &found);
     case NODES:
         return pergidau_json_nodes(bytes, length, max_depth, NULL, 0, &found);
+    case POINTER:
+        return pergidau_json_pointer(bytes, length, max_depth, (const uint8_t *)"/a", 2, &item);
+    case NODE_MEMBER:
+        return pergidau_json_node_member(bytes, length, named, 3, 0, bytes, length, 0, &found);
+    case NODE_ELEMENT:
+        return pergidau_json_node_element(listed, 3, 0, 1, &found);
+    case JSON_WRITE:
+        return pergidau_json_write_string(bytes, length, written, sizeof written, &found);
     case VALUE_EXTENT:
         return pergidau_json_extent(&value, bytes, length, 1, written, sizeof written, &found);
     case HEAD:
@@ -280,6 +317,10 @@ static enum pergidau_code call(enum call which, size_t max_depth)
         return pergidau_http_head_extent(&passed, bytes, length, &found);
     case REQUEST_BODY:
         return pergidau_http_request_body(bytes, length, &body);
+    case REQUEST_FRAMING:
+        return pergidau_http_request_framing(bytes, length, &coding, 1, &framed, &framing);
+    case RESPONSE_FRAMING:
+        return pergidau_http_response_framing(bytes, 1, bytes, length, &coding, 1, &answered, &framing);
     case FIELD:
         return pergidau_http_field(bytes, length, &field, 1, bytes, length, &found);
     case RESPONSE:
@@ -310,6 +351,14 @@ static enum pergidau_code call(enum call which, size_t max_depth)
         return pergidau_http_chunked(&chunked, bytes, length, &step);
     case TOML:
         return pergidau_toml_document(bytes, length, max_depth, NULL, 0, NULL, 0, &toml);
+    case DATE_TIME:
+        return pergidau_toml_date_time(bytes, length, &parts);
+    case NANOSECOND:
+        return pergidau_toml_nanosecond(bytes, length, &nanosecond);
+    case FIND:
+        return pergidau_toml_find(bytes, length, table, 2, 0, &slice, 1, &found);
+    case DOUBLE:
+        return pergidau_text_double(bytes, length, &real);
     case DNS_HEADER:
         return pergidau_dns_message_header(bytes, length, &header);
     case DNS_NAME:

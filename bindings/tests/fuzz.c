@@ -423,7 +423,10 @@ static void read_chunked(const uint8_t *bytes, size_t length)
 #include "json_fuzz.h"
 #include "json_lookup_fuzz.h"
 #include "json_nodes_fuzz.h"
+#include "json_pointer_fuzz.h"
+#include "json_write_fuzz.h"
 #include "resp_nodes_fuzz.h"
+#include "toml_values_fuzz.h"
 #include "toml_fuzz.h"
 #include "writing_fuzz.h"
 
@@ -445,6 +448,8 @@ static void read_all(const uint8_t *bytes, size_t length)
     read_value_extent(bytes, length);
     read_diagnosis(bytes, length);
     read_members(bytes, length);
+    read_pointer(bytes, length);
+    read_node_lookups(bytes, length);
     read_document(bytes, length);
     read_ini(bytes, length);
     read_head(bytes, length);
@@ -459,8 +464,12 @@ static void read_all(const uint8_t *bytes, size_t length)
     read_chunked(bytes, length);
     read_body(bytes, length);
     read_toml(bytes, length);
+    read_date_times(bytes, length);
+    read_doubles(bytes, length);
+    find_anywhere(bytes, length);
     read_place(bytes, length);
     write_slices(bytes, length);
+    write_string(bytes, length);
     read_dns(bytes, length);
 }
 

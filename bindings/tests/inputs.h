@@ -65,6 +65,8 @@ static const char *const seeds[] = {
     "PUT a:/%41 HTTP/1.1\r\nHost: [::1]:80\r\nTransfer-Encoding: a;b=\",\\\"\", chunked\r\n\r\n",
     "CONNECT a:80 HTTP/1.1\r\nHost: %41:\r\n\r\n",
     "POST / HTTP/1.0\r\nTransfer-Encoding: ,chunked,\r\nContent-Length: 5\r\n\r\n",
+    "GET / HTTP/1.1\r\nHost: a\r\nHost: b\r\nConnection: te, close\r\nX: y\r\n\r\n",
+    "GET / HTTP/1.0\r\nHost: a b\r\nConnection: Keep-Alive ,te\r\nConnection: close\r\n\r\n",
     "HTTP/1.1 404 Not Found, and no other page\r\nServer: a\r\nX: \t \r\n\r\nbody",
     "HTTP/1.0 200\r\nA:b\r\n\r\n",
     "a = 1\nb.c = [1, {d = 2.5}, [], \"x\\u00e9\"]\n",

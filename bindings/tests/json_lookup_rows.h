@@ -173,43 +173,104 @@ static void test_members(void)
 static const char rfc_6901[] = "{\"foo\": [\"bar\", \"baz\"], \"\": 0, \"a/b\": 1, \"c%d\": 2, \"e^f\": 3, "
                                "\"g|h\": 4, \"i\\\\j\": 5, \"k\\\"l\": 6, \" \": 7, \"m~n\": 8}";
 
+/* Pointers into that text, with the value: for `END`, the innermost one that the pointer reaches. */
 static const struct {
-    const char *pointer, *value;
+    const char *pointer;
+    enum pergidau_code code;
+    enum pergidau_json_kind kind;
+    const char *value;
 } pointers[] = {
-    {"/foo", "[\"bar\", \"baz\"]"},
-    {"/foo/0", "\"bar\""},
-    {"/foo/1", "\"baz\""},
-    {"/foo/2", NULL},
-    {"/foo/-", NULL},
-    {"/foo/00", NULL},
-    {"/", "0"},
-    {"/a~1b", "1"},
-    {"/c%d", "2"},
-    {"/e^f", "3"},
-    {"/g|h", "4"},
-    {"/i\\j", "5"},
-    {"/k\"l", "6"},
-    {"/ ", "7"},
-    {"/m~0n", "8"},
-    {"/m~0n/a", NULL},
-    {"foo", NULL},
+    {"", PERGIDAU_DONE, PERGIDAU_JSON_OBJECT, rfc_6901},
+    {"/foo", PERGIDAU_DONE, PERGIDAU_JSON_ARRAY, "[\"bar\", \"baz\"]"},
+    {"/foo/0", PERGIDAU_DONE, PERGIDAU_JSON_STRING, "\"bar\""},
+    {"/foo/1", PERGIDAU_DONE, PERGIDAU_JSON_STRING, "\"baz\""},
+    {"/", PERGIDAU_DONE, PERGIDAU_JSON_NUMBER, "0"},
+    {"/a~1b", PERGIDAU_DONE, PERGIDAU_JSON_NUMBER, "1"},
+    {"/c%d", PERGIDAU_DONE, PERGIDAU_JSON_NUMBER, "2"},
+    {"/e^f", PERGIDAU_DONE, PERGIDAU_JSON_NUMBER, "3"},
+    {"/g|h", PERGIDAU_DONE, PERGIDAU_JSON_NUMBER, "4"},
+    {"/i\\j", PERGIDAU_DONE, PERGIDAU_JSON_NUMBER, "5"},
+    {"/k\"l", PERGIDAU_DONE, PERGIDAU_JSON_NUMBER, "6"},
+    {"/ ", PERGIDAU_DONE, PERGIDAU_JSON_NUMBER, "7"},
+    {"/m~0n", PERGIDAU_DONE, PERGIDAU_JSON_NUMBER, "8"},
+    /* (no such member, element, or contents) */
+    {"/m~01n", PERGIDAU_END, PERGIDAU_JSON_OBJECT, rfc_6901},
+    {"/fo", PERGIDAU_END, PERGIDAU_JSON_OBJECT, rfc_6901},
+    {"/foo/2", PERGIDAU_END, PERGIDAU_JSON_ARRAY, "[\"bar\", \"baz\"]"},
+    {"/foo/-", PERGIDAU_END, PERGIDAU_JSON_ARRAY, "[\"bar\", \"baz\"]"},
+    {"/foo/00", PERGIDAU_END, PERGIDAU_JSON_ARRAY, "[\"bar\", \"baz\"]"},
+    {"/foo/", PERGIDAU_END, PERGIDAU_JSON_ARRAY, "[\"bar\", \"baz\"]"},
+    {"/foo/18446744073709551616", PERGIDAU_END, PERGIDAU_JSON_ARRAY, "[\"bar\", \"baz\"]"},
+    {"/foo/0/bar", PERGIDAU_END, PERGIDAU_JSON_STRING, "\"bar\""},
+    {"/m~0n/a/b", PERGIDAU_END, PERGIDAU_JSON_NUMBER, "8"},
+    {"foo", PERGIDAU_INVALID_POINTER, PERGIDAU_JSON_NULL, ""},
+    {"/m~n", PERGIDAU_INVALID_POINTER, PERGIDAU_JSON_NULL, ""},
+    {"/m~2n", PERGIDAU_INVALID_POINTER, PERGIDAU_JSON_NULL, ""},
+    {"/m~", PERGIDAU_INVALID_POINTER, PERGIDAU_JSON_NULL, ""},
 };
 
-#define main json_pointer_main
-#include "../examples/json_pointer.c"
-#undef main
+/* Texts and pointers with the code, and the span of the value. */
+static const struct {
+    const char *text;
+    size_t max_depth;
+    const char *pointer;
+    enum pergidau_code code;
+    size_t offset, length;
+} pointed[] = {
+    {" [1, {\"\\u0061\": 23, \"a\": 4}] ", 2, "/1/a", PERGIDAU_DONE, 16, 2},
+    {"{\"0\": 1}", 1, "/0", PERGIDAU_DONE, 6, 1},
+    {"{\"\\u007e1\": 1}", 1, "/~01", PERGIDAU_DONE, 12, 1},
+    {"[[[]]]", 3, "/0/0", PERGIDAU_DONE, 2, 2},
+    {"[]", 1, "/0", PERGIDAU_END, 0, 2},
+    {"{}", 1, "/", PERGIDAU_END, 0, 2},
+    {" null", 0, "/a", PERGIDAU_END, 1, 4},
+    /* (deeper than the limit, incomplete, or not JSON) */
+    {"[[[]]]", 2, "", PERGIDAU_INVALID, 0, 0},
+    {"", 1, "", PERGIDAU_INVALID, 0, 0},
+    {"[1, 2", 1, "/0", PERGIDAU_INVALID, 0, 0},
+    {"[1, 2,]", 1, "/0", PERGIDAU_INVALID, 0, 0},
+    {"{\"a\": 1 \"b\": 2}", 1, "/a", PERGIDAU_INVALID, 0, 0},
+    /* (what follows the value of the text is not read) */
+    {"[1] x", 1, "/0", PERGIDAU_DONE, 1, 1},
+};
+
+static void test_pointer(const char *text, size_t max_depth, const char *pointer,
+                         enum pergidau_code code, struct pergidau_json_item *item)
+{
+    size_t length = strlen(text), pointer_length = strlen(pointer);
+    uint8_t *bytes = copied(text, length), *tokens = copied(pointer, pointer_length);
+    same("json_pointer", pointer,
+         pergidau_json_pointer(bytes, length, max_depth, tokens, pointer_length, item), code);
+    free(bytes);
+    free(tokens);
+}
 
 static void test_pointers(void)
 {
+    const uint8_t *bytes = (const uint8_t *)"[]";
+    size_t far = (size_t)PTRDIFF_MAX + 1;
+    struct pergidau_json_item item;
     for (size_t i = 0; i < sizeof pointers / sizeof *pointers; i++) {
-        const char *row = pointers[i].pointer;
-        struct pergidau_json_item item;
-        bool is = find((const uint8_t *)rfc_6901, strlen(rfc_6901), 2, row, &item);
-        same("a pointer", row, is, pointers[i].value != NULL);
-        if (is) {
-            same("its value", row, (long long)item.span.length, (long long)strlen(pointers[i].value));
-            same("its text", row,
-                 memcmp(rfc_6901 + item.span.offset, pointers[i].value, item.span.length), 0);
-        }
+        const char *row = pointers[i].pointer, *value = pointers[i].value;
+        test_pointer(rfc_6901, 2, row, pointers[i].code, &item);
+        same("its kind", row, item.kind, pointers[i].kind);
+        same("its length", row, (long long)item.span.length, (long long)strlen(value));
+        same("its text", row, memcmp(rfc_6901 + item.span.offset, value, strlen(value)), 0);
     }
+    for (size_t i = 0; i < sizeof pointed / sizeof *pointed; i++) {
+        const char *row = pointed[i].text;
+        test_pointer(row, pointed[i].max_depth, pointed[i].pointer, pointed[i].code, &item);
+        same("the offset", row, (long long)item.span.offset, (long long)pointed[i].offset);
+        same("the length", row, (long long)item.span.length, (long long)pointed[i].length);
+    }
+    same("too deep", "pointer", pergidau_json_pointer(bytes, 2, 513, bytes, 2, &item),
+         PERGIDAU_MAX_DEPTH_TOO_LARGE);
+    same("null", "pointer", pergidau_json_pointer(NULL, 1, 1, bytes, 0, &item), PERGIDAU_NULL);
+    same("null", "pointer", pergidau_json_pointer(bytes, 2, 1, NULL, 1, &item), PERGIDAU_NULL);
+    same("null", "pointer", pergidau_json_pointer(bytes, 2, 1, bytes, 0, NULL), PERGIDAU_NULL);
+    same("too long", "pointer", pergidau_json_pointer(bytes, far, 1, bytes, 0, &item),
+         PERGIDAU_TOO_LONG);
+    same("too long", "pointer", pergidau_json_pointer(bytes, 2, 1, bytes, far, &item),
+         PERGIDAU_TOO_LONG);
+    same("no pointer", "pointer", pergidau_json_pointer(bytes, 2, 1, NULL, 0, &item), PERGIDAU_DONE);
 }

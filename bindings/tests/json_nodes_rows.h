@@ -67,6 +67,114 @@ static void test_nodes_in(size_t i, size_t size)
     free(nodes);
 }
 
+/* Members and elements of the nodes of this text. `size` is how many nodes are given. */
+static const char looked_up[] =
+    "{ \"a\" : {\"b\" :1 } ,\"\\u0063\":[2 , \"d\"], \"a\": 3, \"e/f\": 4}";
+
+static const struct {
+    size_t size, index;
+    const char *name;
+    bool is_token;
+    enum pergidau_code code;
+    size_t out;
+} named_nodes[] = {
+    {13, 0, "a", false, PERGIDAU_DONE, 2},
+    {13, 0, "c", false, PERGIDAU_DONE, 6},
+    {13, 0, "e/f", false, PERGIDAU_DONE, 12},
+    {13, 0, "e~1f", true, PERGIDAU_DONE, 12},
+    {13, 0, "e~1f", false, PERGIDAU_END, 0},
+    {13, 0, "\\u0063", false, PERGIDAU_END, 0},
+    {13, 0, "b", false, PERGIDAU_END, 0},
+    {13, 0, "", false, PERGIDAU_END, 0},
+    {13, 2, "b", false, PERGIDAU_DONE, 4},
+    {13, 2, "a", false, PERGIDAU_END, 0},
+    {5, 2, "b", false, PERGIDAU_DONE, 4},
+    /* (not an object, or no node) */
+    {13, 1, "a", false, PERGIDAU_INVALID, 0},
+    {13, 4, "a", false, PERGIDAU_INVALID, 0},
+    {13, 6, "a", false, PERGIDAU_INVALID, 0},
+    {13, 13, "a", false, PERGIDAU_INVALID, 0},
+    {12, 0, "a", false, PERGIDAU_INVALID, 0},
+    {0, 0, "a", false, PERGIDAU_INVALID, 0},
+};
+
+static const struct {
+    size_t size, index, position;
+    enum pergidau_code code;
+    size_t out;
+} element_nodes[] = {
+    {13, 6, 0, PERGIDAU_DONE, 7},
+    {13, 6, 1, PERGIDAU_DONE, 8},
+    {13, 6, 2, PERGIDAU_END, 0},
+    {13, 6, SIZE_MAX, PERGIDAU_END, 0},
+    {13, 0, 0, PERGIDAU_INVALID, 0},
+    {13, 8, 0, PERGIDAU_INVALID, 0},
+    {13, SIZE_MAX, 0, PERGIDAU_INVALID, 0},
+    {8, 6, 0, PERGIDAU_INVALID, 0},
+};
+
+/* Nodes that are not those of the text: each changes one field of the name of the first member. */
+static void test_broken_nodes(const struct pergidau_json_node *nodes)
+{
+    const struct pergidau_json_node names[] = {
+        {PERGIDAU_JSON_NAME, 2, 5, 1},
+        {PERGIDAU_JSON_NAME, 2, 5, 13},
+        {PERGIDAU_JSON_NAME, 1, 5, 2},
+        {PERGIDAU_JSON_NAME, SIZE_MAX, 5, 2},
+    };
+    struct pergidau_json_node broken[13];
+    size_t out;
+    for (size_t i = 0; i < sizeof names / sizeof *names; i++) {
+        memcpy(broken, nodes, sizeof broken);
+        broken[1] = names[i];
+        same("a broken name", looked_up,
+             pergidau_json_node_member((const uint8_t *)looked_up, strlen(looked_up), broken, 13, 0,
+                                       (const uint8_t *)"a", 1, 0, &out), PERGIDAU_INVALID);
+        same("its index", looked_up, (long long)out, 0);
+    }
+    broken[7].next = 7;
+    same("a broken element", looked_up, pergidau_json_node_element(broken, 13, 6, 1, &out),
+         PERGIDAU_INVALID);
+    same("its index", looked_up, (long long)out, 0);
+}
+
+static void test_node_lookups(void)
+{
+    const uint8_t *text = (const uint8_t *)looked_up, *a = (const uint8_t *)"a";
+    struct pergidau_json_node nodes[13];
+    size_t length = strlen(looked_up), out, far = (size_t)PTRDIFF_MAX + 1;
+    same("json_nodes", looked_up, pergidau_json_nodes(text, length, 2, nodes, 13, &out), PERGIDAU_DONE);
+    same("the number of nodes", looked_up, (long long)out, 13);
+    for (size_t i = 0; i < sizeof named_nodes / sizeof *named_nodes; i++) {
+        const char *row = named_nodes[i].name;
+        size_t name_length = strlen(row), size = named_nodes[i].size;
+        uint8_t *name = copied(row, name_length);
+        same("json_node_member", row,
+             pergidau_json_node_member(text, length, nodes, size, named_nodes[i].index, name,
+                                       name_length, named_nodes[i].is_token, &out),
+             named_nodes[i].code);
+        same("the index", row, (long long)out, (long long)named_nodes[i].out);
+        free(name);
+    }
+    for (size_t i = 0; i < sizeof element_nodes / sizeof *element_nodes; i++) {
+        same("json_node_element", "nodes",
+             pergidau_json_node_element(nodes, element_nodes[i].size, element_nodes[i].index,
+                                        element_nodes[i].position, &out), element_nodes[i].code);
+        same("the index", "nodes", (long long)out, (long long)element_nodes[i].out);
+    }
+    test_broken_nodes(nodes);
+    same("null", "text", pergidau_json_node_member(NULL, 1, nodes, 13, 0, a, 1, 0, &out), PERGIDAU_NULL);
+    same("null", "nodes", pergidau_json_node_member(text, 1, NULL, 1, 0, a, 1, 0, &out), PERGIDAU_NULL);
+    same("null", "name", pergidau_json_node_member(text, 1, nodes, 13, 0, NULL, 1, 0, &out), PERGIDAU_NULL);
+    same("null", "out", pergidau_json_node_member(text, 1, nodes, 13, 0, a, 1, 0, NULL), PERGIDAU_NULL);
+    same("null", "nodes", pergidau_json_node_element(NULL, 1, 0, 0, &out), PERGIDAU_NULL);
+    same("null", "out", pergidau_json_node_element(nodes, 13, 0, 0, NULL), PERGIDAU_NULL);
+    same("too long", "text", pergidau_json_node_member(text, far, nodes, 13, 0, a, 1, 0, &out),
+         PERGIDAU_TOO_LONG);
+    same("too long", "nodes", pergidau_json_node_element(nodes, far / sizeof *nodes, 0, 0, &out),
+         PERGIDAU_TOO_LONG);
+}
+
 static void test_nodes(void)
 {
     struct pergidau_json_node node;

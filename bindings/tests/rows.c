@@ -1,4 +1,5 @@
 /* Tables of the readers' tests, and invalid arguments, from C. Exits with 1 if a row differs. */
+#include <math.h>
 #include <stdbool.h>
 #include <stdio.h>
 #include <stdlib.h>
@@ -33,6 +34,7 @@ static uint8_t *copied(const char *text, size_t length)
 #include "json_nodes_rows.h"
 #include "json_rows.h"
 #include "toml_rows.h"
+#include "toml_values_rows.h"
 
 static const struct {
     const char *text;
@@ -1298,6 +1300,7 @@ static void test_library(void)
 #include "trailers_rows.h"
 #include "resp_nodes_rows.h"
 #include "writing_rows.h"
+#include "json_write_rows.h"
 
 int main(void)
 {
@@ -1307,6 +1310,8 @@ int main(void)
     test_json();
     test_steps();
     test_nodes();
+    test_node_lookups();
+    test_written_strings();
     test_json_extents();
     test_strings();
     test_integers();
@@ -1330,8 +1335,12 @@ int main(void)
     test_resp_nodes();
     test_bodies();
     test_body_lengths();
+    test_framings();
     test_fields();
     test_toml();
+    test_date_times();
+    test_searches();
+    test_doubles();
     test_positions();
     test_writing();
     test_dns();

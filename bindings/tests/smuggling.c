@@ -37,6 +37,8 @@ static const struct {
     {POST "Transfer-Encoding:\r\nTransfer-Encoding: chunked\r\n\r\n0\r\n\r\n" HIDDEN, "501"},
     {"GET /none HTTP/1.1\r\n" HOST "Connection: close\r\n\r\n" HIDDEN, "404"},
     {"GET /hello HTTP/1.0\r\n\r\n" HIDDEN, "200[hello\n]"},
+    {"GET /hello HTTP/1.0\r\nConnection: te,Keep-Alive\r\n\r\n" HIDDEN, "200[hello\n] 200[hello\n]"},
+    {"GET /hello HTTP/1.1\r\n" HOST "Connection: te\r\nConnection: x, Close\r\n\r\n" HIDDEN, "200[hello\n]"},
     /* Both a length and a coding. */
     {POST "Content-Length: 4\r\nTransfer-Encoding: chunked\r\n\r\n0\r\n\r\n" HIDDEN, "400"},
     {POST "Transfer-Encoding: chunked\r\nContent-Length: 4\r\n\r\n0\r\n\r\n" HIDDEN, "400"},

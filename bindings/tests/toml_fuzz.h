@@ -103,5 +103,6 @@ static void read_toml(const uint8_t *bytes, size_t length)
         look_at_depth(bytes, length, nodes, i, max_depth);
     }
     look_at_joins(bytes, length, nodes, count);
+    find_nodes(bytes, length, text, size, nodes, count);
     free(nodes);
 }

@@ -1,10 +1,7 @@
 // Calls each function of pergidau.hpp, with inputs and buffers of several types.
 #include <array>
-#include <cfloat>
-#include <cmath>
 #include <cstdio>
 #include <cstdlib>
-#include <cstring>
 #include <string>
 #include <vector>
 #ifdef __cpp_lib_span
@@ -124,8 +121,12 @@ static void http()
     EXPECT(pergidau::http_head("PUT", fields).code == PERGIDAU_INVALID);
     EXPECT(pergidau::http_head_partial("PUT", fields).code == PERGIDAU_INCOMPLETE);
     EXPECT(pergidau::http_request_body(request)->length == 3);
+    const auto framing = pergidau::http_request_framing(request, fields, *head);
+    EXPECT(framing && framing->body.length == 3 && framing->persists);
     EXPECT(pergidau::http_response_body("GET", response)->kind == PERGIDAU_HTTP_BODY_UNTIL_CLOSE);
-    EXPECT(pergidau::http_response_head(response, fields)->status == 200);
+    const auto status = pergidau::http_response_head(response, fields);
+    EXPECT(status->status == 200);
+    EXPECT(!pergidau::http_response_framing("GET", response, fields, *status)->persists);
     EXPECT(pergidau::http_response_head("HTTP", fields).code == PERGIDAU_INVALID);
     EXPECT(pergidau::http_response_head_partial("HTTP", fields).code == PERGIDAU_INCOMPLETE);
     pergidau_http_head_state state{}, other{};
@@ -151,74 +152,25 @@ static void json_and_toml()
     EXPECT(pergidau::json_diagnose("[1,]", 1)->error == PERGIDAU_JSON_ERROR_VALUE);
     EXPECT(*pergidau::json_integer("-5") == -5 && *pergidau::json_natural("5") == 5);
     EXPECT(*pergidau::json_member("{\"a/b\": 1}", 1, "a~1b", true) == 6);
+    EXPECT(pergidau::json_pointer("{\"a/b\": [1]}", 2, "/a~1b/0")->span.offset == 9);
     EXPECT(*pergidau::json_nodes("{\"a\": [1]}", 2, nodes) == 4 && nodes[1].next == 2);
+    EXPECT(*pergidau::json_node_member("{\"a\": [1]}", nodes, 0, "a", false) == 2);
+    EXPECT(*pergidau::json_node_element(nodes, 2, 0) == 3);
     EXPECT(pergidau::json_step("[1]")->kind == PERGIDAU_JSON_BEGIN_ARRAY);
     EXPECT(pergidau::json_string("\"\\u0061\"", buffer)->text == 1 && buffer[0] == 'a');
+    EXPECT(*pergidau::json_write_string("a\"\n", buffer) == 7);
     pergidau_json_value_state state{};
     EXPECT(*pergidau::json_extent(state, " [1] 2", 0, buffer) == 4);
     EXPECT(*pergidau::json_extent(state, " 2", 1, buffer) == 2);
     EXPECT(pergidau::json_extent(state, "[1", 0, buffer).code == PERGIDAU_INCOMPLETE);
     EXPECT(pergidau::toml_document("a = 7", 4, buffer, tables) && tables[1].value.integer == 7);
+    const std::array<pergidau_bytes, 1> names{pergidau::slice("a")};
+    EXPECT(*pergidau::toml_find(buffer, tables, 0, names) == 1);
+    EXPECT(pergidau::toml_find(buffer, tables, 1, names).code == PERGIDAU_END);
+    EXPECT(pergidau::toml_date_time("1979-05-27")->day == 27);
+    EXPECT(*pergidau::toml_nanosecond("05") == 50000000);
+    EXPECT(*pergidau::text_double("-2.5e1") == -25 && !pergidau::text_double("x"));
 }
-
-#ifdef __cpp_lib_to_chars
-// The doubles of numbers, also of halves between two doubles, and those of strtod, whose locale is "C".
-static void doubles()
-{
-    const struct {
-        const char *number;
-        pergidau_code code;
-        double value;
-    } rows[] = {
-        {"2.50", PERGIDAU_DONE, 2.5},
-        {"-1E+2,", PERGIDAU_DONE, -100},
-        {"-0", PERGIDAU_DONE, -0.0},
-        {"01", PERGIDAU_DONE, 0},
-        {"1.e5", PERGIDAU_DONE, 1},
-        {"9007199254740993", PERGIDAU_DONE, 0x1p53},
-        {"9007199254740995", PERGIDAU_DONE, 0x1p53 + 4},
-        {"9007199254740993.0000000000000000001", PERGIDAU_DONE, 0x1p53 + 2},
-        {"1.00000000000000011102230246251565404236316680908203125", PERGIDAU_DONE, 1},
-        {"1.00000000000000011102230246251565404236316680908203126", PERGIDAU_DONE, 1 + DBL_EPSILON},
-        {"2.4703282292062328e-324", PERGIDAU_DONE, 0x1p-1074},
-        {"2.2250738585072011e-308", PERGIDAU_DONE, DBL_MIN - 0x1p-1074},
-        {"1.7976931348623158e308", PERGIDAU_DONE, DBL_MAX},
-        {"1.7976931348623159e308", PERGIDAU_OUT_OF_RANGE, 0},
-        {"-1e400", PERGIDAU_OUT_OF_RANGE, 0},
-        {"2.4703282292062327e-324", PERGIDAU_OUT_OF_RANGE, 0},
-        {"0e-400", PERGIDAU_DONE, 0},
-        {"", PERGIDAU_INVALID, 0},
-        {"-", PERGIDAU_INVALID, 0},
-        {" 1", PERGIDAU_INVALID, 0},
-        {"inf", PERGIDAU_INVALID, 0},
-        {"-inf", PERGIDAU_INVALID, 0},
-        {"nan", PERGIDAU_INVALID, 0},
-        {".5", PERGIDAU_INVALID, 0},
-        {"[1]", PERGIDAU_INVALID, 0},
-    };
-    for (const auto &row : rows) {
-        const auto found = pergidau::json_double(row.number);
-        EXPECT(found.code == row.code && found.value == row.value);
-        EXPECT(std::signbit(found.value) == std::signbit(row.value));
-    }
-    EXPECT(pergidau::json_double({nullptr, 0}).code == PERGIDAU_INVALID);
-    std::uint64_t seed = 0x2545f4914f6cdd1d;
-    for (int i = 0; i < 100000; i++) {
-        char number[64];
-        double any;
-        seed ^= seed << 13;
-        seed ^= seed >> 7;
-        seed ^= seed << 17;
-        std::memcpy(&any, &seed, sizeof any);
-        if (std::isfinite(any)) {
-            std::snprintf(number, sizeof number, "%.*e", 1 + i % 20, any);
-            const auto found = pergidau::json_double(number);
-            const double want = std::strtod(number, nullptr);
-            EXPECT(found ? found.value == want : std::isinf(want) && found.code == PERGIDAU_OUT_OF_RANGE);
-        }
-    }
-}
-#endif
 
 static void resp()
 {
@@ -246,9 +198,6 @@ int main()
     dns();
     http();
     json_and_toml();
-#ifdef __cpp_lib_to_chars
-    doubles();
-#endif
     resp();
     if (line_of_fault) {
         std::printf("tests/wrappers.cpp, line %d\n", line_of_fault);

@@ -22,8 +22,8 @@ def facade():
     """The items of each module of the crate `winnow`, from the crates that define them."""
     found = {}
     for path in sorted((FACADE / "src").rglob("*.rt")):
-        if path.stem == "parsers":
-            # The structs of `impls` under other names.
+        if path.stem in ("parsers", "macros"):
+            # The structs of `impls` under other names; a macro, which is no item.
             continue
         name = "::".join(path.relative_to(FACADE / "src").with_suffix("").parts)
         uses = module("winnow", path)[2]

@@ -19,6 +19,7 @@ FILES = [
     "bindings/c/pergidau.hpp.in",
     "bindings/c/pergidau.map",
     "bindings/rust/Cargo.toml",
+    "bindings/serde/Cargo.toml",
 ]
 
 
@@ -67,8 +68,8 @@ def faults(room):
         yield f"{new} is released twice, or {newer} is not released after it"
     if f"## Unreleased\n\n## {newer}\n\n- Two.\n\n## {new}\n\n" not in read(log):
         yield f"{newer} is not above {new}"
-    if f'version = "{newer}"' not in read(room / FILES[-1]):
-        yield "the crate for Rust has another version"
+    if any(f'version = "{newer}"' not in read(room / it) for it in FILES[-2:]):
+        yield "a crate for Rust has another version"
     if f'#define PERGIDAU_VERSION "{newer}"' not in read(room / "bindings/c/pergidau.h"):
         yield "the header has another version"
     (room / "VERSION").write_text(f"{new}\n", encoding="utf-8")

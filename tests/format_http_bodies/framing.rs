@@ -160,10 +160,10 @@ fn fields_of<'i>(rt: &impl Abort, alloc: Global, text: &'i [u8]) -> Vec<Field<'i
 fn body_length_of_fields(rt: HostRuntime) {
     for (text, request, response) in FIELDS {
         let fields = fields_of(&rt, rt.alloc(), text);
-        let found = body_length(Message::Request, 1, 1, &fields);
+        let found = body_length(Message::Request, 1, 1, fields.as_slice());
         assert!(rt; found == *request, "{text:?} {found:?}");
         let to = Message::Response { method: b"GET", status: 200 };
-        let found = body_length(to, 1, 1, &fields);
+        let found = body_length(to, 1, 1, fields.as_slice());
         assert!(rt; found == *response, "{text:?} {found:?}");
     }
 }
@@ -174,13 +174,13 @@ fn body_length_of_statuses(rt: HostRuntime) {
     let beside = [length[0], Field { name: b"Transfer-Encoding", value: b"chunked" }];
     for (method, status, want) in STATUSES {
         let message = Message::Response { method, status: *status };
-        let found = body_length(message, 1, 1, &length);
+        let found = body_length(message, 1, 1, length.as_slice());
         assert!(rt; found == *want, "{method:?} {status} {found:?}");
         let faulty = match *want {
             Ok(BodyLength::Length(_)) => BESIDE,
             other => other,
         };
-        assert!(rt; body_length(message, 1, 1, &beside) == faulty, "{method:?} {status}");
+        assert!(rt; body_length(message, 1, 1, beside.as_slice()) == faulty, "{method:?} {status}");
     }
 }
 
@@ -199,11 +199,11 @@ fn body_length_of_versions(rt: HostRuntime) {
     let beside = [coding[0], Field { name: b"Content-Length", value: b"7" }];
     let length = [beside[1]];
     for (major, minor, fault) in VERSIONS {
-        let found = body_length(Message::Request, *major, *minor, &coding);
+        let found = body_length(Message::Request, *major, *minor, coding.as_slice());
         assert!(rt; found == if *fault { BEFORE } else { CHUNKED }, "{major} {minor}");
-        let found = body_length(Message::Request, *major, *minor, &beside);
+        let found = body_length(Message::Request, *major, *minor, beside.as_slice());
         assert!(rt; found == if *fault { BEFORE } else { BESIDE }, "{major} {minor}");
-        let found = body_length(Message::Request, *major, *minor, &length);
+        let found = body_length(Message::Request, *major, *minor, length.as_slice());
         assert!(rt; found == Ok(BodyLength::Length(7)), "{major} {minor}");
     }
 }

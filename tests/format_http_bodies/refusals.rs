@@ -1,8 +1,8 @@
 //! Requests that a server must reject, by their heads.
 use format_http::bodies::framing::FramingError;
-use format_http::bodies::refusals::{Reason, refusal_of};
+use format_http::bodies::refusals::{Reason, request_framing};
 use format_http::heads::field_line::read_field_line;
-use format_http::heads::head::read_head;
+use format_http::heads::head::{Head, read_head};
 use format_http::heads::hosts::HostError;
 use std::alloc::Global;
 use std::process::Abort;
@@ -191,12 +191,20 @@ const NO_HEADS: &[&[u8]] = &[
     b"GET /\r HTTP/1.1\r\nHost: a\r\n\r\n",
 ];
 
+/// The reason to reject the request of a head.
+fn reason_of(head: &Head<'_, Global>) -> Option<Reason> {
+    match request_framing(&head.line, head.fields.as_slice()) {
+        Ok(_) => None,
+        Err(reason) => Some(reason),
+    }
+}
+
 #[test]
-fn refusal_of_heads(rt: HostRuntime) {
+fn request_framing_of_heads(rt: HostRuntime) {
     for (text, want) in HEADS {
         let mut input = *text;
         let head = read_head(rt.alloc(), &mut input);
-        assert!(rt; head.is_ok_and(|it| refusal_of(&it) == *want), "{text:?}");
+        assert!(rt; head.is_ok_and(|it| reason_of(&it) == *want), "{text:?}");
     }
 }
 
@@ -204,7 +212,7 @@ fn refusal_of_heads(rt: HostRuntime) {
 fn refuses(rt: &impl Abort, alloc: Global, text: &[u8], want: Option<Reason>) {
     let mut input = text;
     let head = read_head(alloc, &mut input);
-    assert!(rt; head.is_ok_and(|it| refusal_of(&it) == want), "{text:?}");
+    assert!(rt; head.is_ok_and(|it| reason_of(&it) == want), "{text:?}");
 }
 
 /// Checks the reason for which the request of a head in parts is rejected.
@@ -217,7 +225,7 @@ fn refuses_parts(rt: &impl Abort, alloc: Global, parts: [&[u8]; 3], want: Option
 }
 
 #[test]
-fn refusal_of_hosts(rt: HostRuntime) {
+fn request_framing_of_hosts(rt: HostRuntime) {
     for (host, want) in HOSTS {
         let parts = [b"GET / HTTP/1.1\r\nHost: ".as_slice(), *host, b"\r\n\r\n".as_slice()];
         refuses_parts(&rt, rt.alloc(), parts, *want);
@@ -225,7 +233,7 @@ fn refusal_of_hosts(rt: HostRuntime) {
 }
 
 #[test]
-fn refusal_of_targets(rt: HostRuntime) {
+fn request_framing_of_targets(rt: HostRuntime) {
     for (line, want) in TARGETS {
         let parts = [*line, b" HTTP/1.1\r\nHost: a".as_slice(), b"\r\n\r\n".as_slice()];
         refuses_parts(&rt, rt.alloc(), parts, *want);
@@ -233,7 +241,7 @@ fn refusal_of_targets(rt: HostRuntime) {
 }
 
 #[test]
-fn refusal_of_framings(rt: HostRuntime) {
+fn request_framing_of_framings(rt: HostRuntime) {
     for (fields, want) in FRAMINGS {
         let parts = [b"POST / HTTP/1.1\r\nHost: a\r\n".as_slice(), *fields, b"\r\n".as_slice()];
         refuses_parts(&rt, rt.alloc(), parts, *want);
@@ -241,14 +249,14 @@ fn refusal_of_framings(rt: HostRuntime) {
 }
 
 #[test]
-fn refusal_of_a_coding_before_version_1_1(rt: HostRuntime) {
+fn request_framing_of_a_coding_before_version_1_1(rt: HostRuntime) {
     let text = b"POST / HTTP/1.0\r\nTransfer-Encoding: chunked\r\n\r\n";
     let want = Some(Reason::Body(FramingError::CodingBeforeVersion));
     refuses(&rt, rt.alloc(), text, want);
 }
 
 #[test]
-fn refusal_of_no_host_comes_first(rt: HostRuntime) {
+fn request_framing_of_no_host_comes_first(rt: HostRuntime) {
     let text = b"POST / HTTP/1.1\r\nContent-Length: a\r\nTransfer-Encoding: a\r\n\r\n";
     refuses(&rt, rt.alloc(), text, NO_HOST);
     let text = b"POST / HTTP/1.0\r\nContent-Length: a\r\n\r\n";

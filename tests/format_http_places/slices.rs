@@ -3,10 +3,12 @@ use crate::heads::{HEADS, same};
 use crate::responses;
 use format_http::bodies::framing::{BodyLength, FramingError, Message, body_length};
 use format_http::heads::field_line;
+use format_http::heads::fields::Fields;
 use format_http_places::places::{Field, Span};
 use format_http_places::read::read_head_into;
 use format_http_places::response::read_response_head_into;
-use format_http_places::slices::{slice_at, write_slices};
+use format_http_places::slices::{FieldsAt, slice_at};
+use std::process::Abort;
 
 const NOWHERE: Span = Span {
     offset: 0,
@@ -17,8 +19,6 @@ const NO_FIELD: Field = Field {
     name: NOWHERE,
     value: NOWHERE,
 };
-
-const NO_SLICES: field_line::Field<'static> = field_line::Field { name: b"", value: b"" };
 
 #[test]
 fn slice_at_of_spans(rt: HostRuntime) {
@@ -37,33 +37,35 @@ fn slice_at_of_spans(rt: HostRuntime) {
     }
 }
 
+/// Checks the names and values at positions.
+fn same_fields(rt: &impl Abort, bytes: &[u8], fields: &[Field], want: &[(&[u8], &[u8])]) {
+    let mut left = FieldsAt { bytes, fields };
+    for pair in want {
+        let found = left.next();
+        same(rt, bytes, found, Some(field_line::Field { name: pair.0, value: pair.1 }));
+    }
+    same(rt, bytes, left.next(), None);
+}
+
 #[test]
-fn write_slices_of_heads(rt: HostRuntime) {
+fn fields_at_of_heads(rt: HostRuntime) {
     for row in HEADS {
-        let (mut fields, mut slices) = ([NO_FIELD; 9], [NO_SLICES; 9]);
+        let mut fields = [NO_FIELD; 9];
         if let Ok(head) = read_head_into(row.0, &mut fields) {
-            write_slices(row.0, &fields[..head.fields], &mut slices);
-            same(&rt, row.0, slices[head.fields], NO_SLICES);
-            for (slice, (name, value)) in slices.iter().zip(row.3.iter()) {
-                same(&rt, row.0, (slice.name, slice.value), (*name, *value));
-            }
+            same_fields(&rt, row.0, &fields[..head.fields], row.3);
         }
     }
     for row in responses::HEADS {
-        let (mut fields, mut slices) = ([NO_FIELD; 9], [NO_SLICES; 9]);
+        let mut fields = [NO_FIELD; 9];
         if let Ok(head) = read_response_head_into(row.0, &mut fields) {
-            let count = head.fields;
-            write_slices(row.0, &fields[..count], &mut slices[..count]);
-            for (slice, (name, value)) in slices.iter().zip(row.4.iter()) {
-                same(&rt, row.0, (slice.name, slice.value), (*name, *value));
-            }
+            same_fields(&rt, row.0, &fields[..head.fields], row.4);
         }
     }
 }
 
 /// Lengths by RFC 9112, section 6.3, of the fields that were read.
 #[test]
-fn body_length_of_slices(rt: HostRuntime) {
+fn body_length_of_positions(rt: HostRuntime) {
     for (text, want) in [
         (b"GET / HTTP/1.1\r\n\r\n".as_slice(), Ok(BodyLength::NoBody)),
         (b"GET / HTTP/1.1\r\ncontent-length: 7\r\n\r\n", Ok(BodyLength::Length(7))),
@@ -73,11 +75,10 @@ fn body_length_of_slices(rt: HostRuntime) {
             Err(FramingError::LengthsDiffer),
         ),
     ] {
-        let (mut fields, mut slices) = ([NO_FIELD; 3], [NO_SLICES; 3]);
+        let mut fields = [NO_FIELD; 3];
         if let Ok(head) = read_head_into(text, &mut fields) {
-            write_slices(text, &fields[..head.fields], &mut slices);
-            let length = body_length(Message::Request, 1, 1, &slices[..head.fields]);
-            same(&rt, text, length, want);
+            let read = FieldsAt { bytes: text, fields: &fields[..head.fields] };
+            same(&rt, text, body_length(Message::Request, 1, 1, read), want);
         } else {
             same(&rt, text, 0, 1);
         }

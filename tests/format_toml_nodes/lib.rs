@@ -2,4 +2,6 @@
 #![tactic(auto)]
 
 #[cfg(test)]
+mod date_times;
+#[cfg(test)]
 mod nodes;

@@ -1,5 +1,6 @@
 //! Nodes compared with the tree that they are written from, and buffers that are too small.
 use format_toml_document::{Document, Node, Tree, from_text};
+use format_toml_nodes::find::find_entry;
 use format_toml_nodes::node::{NO_NODE, TOML_ARRAY, TOML_TABLE, TomlNode};
 use format_toml_nodes::nodes::{size_of, write_nodes};
 use std::alloc::Global;
@@ -34,11 +35,14 @@ fn same(rt: &impl Abort, node: Node<'_, '_, Global>, nodes: &[TomlNode], text: &
             assert_eq!(rt; nodes[next].parent, at);
             let name = nodes[next].name;
             assert_eq!(rt; &text[name.offset..][..name.length], below.name().as_bytes());
+            let found = find_entry(text, nodes, at, below.name().as_bytes());
+            assert_eq!(rt; found, if node.is_table() { Some(next) } else { None });
             same(rt, below, nodes, text, next);
             next = nodes[next].next;
         }
     }
     assert_eq!(rt; next, 0);
+    assert_eq!(rt; find_entry(text, nodes, at, b"no"), None);
 }
 
 fn look_at(rt: &impl Abort, tree: &Tree<'_, Global>) {

@@ -1,21 +1,11 @@
 //! Every caller with its successes and errors, and the rest.
 use std::fmt::Debug;
 use std::process::Abort;
-use example_callers::premises::closures::{
-    digit_of_bytes, digit_of_text, mapped_byte, mapped_character, verified_byte, verified_character,
-};
-use example_callers::premises::errors::{
-    converted_over_bytes, converted_over_text, kept_over_bytes, kept_over_text, mode_over_bytes,
-    mode_over_text,
-};
+use example_callers::premises::closures::{digit_of_bytes, mapped_byte, verified_byte};
+use example_callers::premises::errors::{converted_over_bytes, kept_over_bytes, mode_over_bytes};
 use example_callers::premises::lengths::{bytes_behind_length, letters_behind_length};
-use example_callers::premises::outputs::{
-    byte_twice, character_twice, letters_of_two, letters_of_two_characters, number_of_three,
-    number_of_three_characters,
-};
-use example_callers::premises::repeats::{
-    bytes_up_to_mark, characters_up_to_mark, greatest_byte, greatest_code,
-};
+use example_callers::premises::outputs::{byte_twice, letters_of_two, number_of_three};
+use example_callers::premises::repeats::{bytes_up_to_mark, greatest_byte};
 
 /// Checks the result of a reader, and the rest.
 fn same<T: PartialEq + Debug + Drop, I: PartialEq + Debug + Copy>(
@@ -30,7 +20,7 @@ fn same<T: PartialEq + Debug + Drop, I: PartialEq + Debug + Copy>(
 }
 
 #[test]
-fn closures_over_bytes(rt: HostRuntime) {
+fn closures(rt: HostRuntime) {
     for (text, number, rest) in [
         (b"a1".as_slice(), Some(97), b"1".as_slice()),
         (b"\xFF", Some(255), b""),
@@ -61,22 +51,6 @@ fn closures_over_bytes(rt: HostRuntime) {
 }
 
 #[test]
-fn closures_over_text(rt: HostRuntime) {
-    for (text, code, rest) in [("é1", Some(233), "1"), ("€", Some(8364), ""), ("", None, "")] {
-        let mut input = text;
-        same(&rt, mapped_character(&mut input).ok(), input, code, rest);
-    }
-    for (text, c, rest) in [("éa", Some('é'), "a"), (" a", None, " a"), ("", None, "")] {
-        let mut input = text;
-        same(&rt, verified_character(&mut input).ok(), input, c, rest);
-    }
-    for (text, digit, rest) in [("7é", Some(7), "é"), ("é", None, "é"), ("", None, "")] {
-        let mut input = text;
-        same(&rt, digit_of_text(&mut input).ok(), input, digit, rest);
-    }
-}
-
-#[test]
 fn errors(rt: HostRuntime) {
     for (text, byte, rest) in [
         (b"ab".as_slice(), Some(b'a'), b"b".as_slice()),
@@ -88,14 +62,6 @@ fn errors(rt: HostRuntime) {
         same(&rt, kept_over_bytes(&mut input).ok(), input, byte, rest);
         let mut input = text;
         same(&rt, converted_over_bytes(&mut input).ok(), input, byte, rest);
-    }
-    for (text, c, rest) in [("éb", Some('é'), "b"), ("", None, "")] {
-        let mut input = text;
-        same(&rt, mode_over_text(&mut input).ok(), input, c, rest);
-        let mut input = text;
-        same(&rt, kept_over_text(&mut input).ok(), input, c, rest);
-        let mut input = text;
-        same(&rt, converted_over_text(&mut input).ok(), input, c, rest);
     }
 }
 
@@ -143,29 +109,21 @@ fn outputs(rt: HostRuntime) {
         ("", None),
     ] {
         assert_eq!(rt; number_of_three(&mut text.as_bytes()).ok(), number, "{text}");
-        assert_eq!(rt; number_of_three_characters(&mut &*text).ok(), number, "{text}");
     }
-    assert!(rt; number_of_three_characters(&mut "4é2").is_err());
     for (text, letters) in [("a1bc", Some("a")), ("abc", Some("ab")), ("1a", None), ("a", None)] {
         let bytes = letters_of_two(&mut text.as_bytes()).ok();
         assert_eq!(rt; bytes, letters.map(|it: &str| it.as_bytes()), "{text}");
-        assert_eq!(rt; letters_of_two_characters(&mut &*text).ok(), letters, "{text}");
     }
-    assert_eq!(rt; letters_of_two_characters(&mut "aé"), Ok("a"));
     for (text, byte) in [("aab", Some(b'a')), ("ab", None), ("a", None), ("", None)] {
         assert_eq!(rt; byte_twice(&mut text.as_bytes()).ok(), byte, "{text}");
-    }
-    for (text, c) in [("ééa", Some('é')), ("éa", None), ("", None)] {
-        assert_eq!(rt; character_twice(&mut &*text).ok(), c, "{text}");
     }
 }
 
 #[test]
 fn repeats(rt: HostRuntime) {
     let alloc = rt.alloc();
-    for (text, byte, code) in [("acb", b'c', 99), ("", 0, 0), ("aéb", 0xC3, 233)] {
+    for (text, byte) in [("acb", b'c'), ("", 0), ("aéb", 0xC3)] {
         assert_eq!(rt; greatest_byte(alloc, &mut text.as_bytes()), Ok(byte), "{text}");
-        assert_eq!(rt; greatest_code(alloc, &mut &*text), Ok(code), "{text}");
     }
     let mut input = b"ab;c;".as_slice();
     match bytes_up_to_mark(alloc, &mut input) {
@@ -174,11 +132,4 @@ fn repeats(rt: HostRuntime) {
     }
     assert_eq!(rt; input, b"c;".as_slice());
     assert!(rt; bytes_up_to_mark(alloc, &mut b"ab".as_slice()).is_err());
-    let mut input = "é;c";
-    match characters_up_to_mark(alloc, &mut input) {
-        Ok((list, mark)) => assert!(rt; list.as_slice() == ['é'].as_slice() && mark == ';'),
-        Err(_) => assert!(rt; false),
-    }
-    assert_eq!(rt; input, "c");
-    assert!(rt; characters_up_to_mark(alloc, &mut "é").is_err());
 }

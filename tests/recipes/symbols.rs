@@ -5,7 +5,7 @@ use std::alloc::Global;
 use std::collections::BTreeMap;
 use test_support::rows::Modal;
 use winnow::ascii::impls::{Alpha1, DecUint};
-use winnow::combinator::{alt, delimited, preceded, separated_foldl1};
+use winnow::combinator::{alt, delimited, preceded, separated_foldl1, seq};
 use winnow::error::OrNoMemory;
 use winnow::prelude::*;
 
@@ -62,9 +62,7 @@ struct Span {
 
 /// Parses a range of lines, as `3-7`.
 fn read_span(input: &mut &str) -> Result<Span, Modal> {
-    (DecUint, '-', DecUint)
-        .map(|(first, _dash, last): (u32, char, u32)| Span { first, last })
-        .parse_next(input)
+    seq!(Span { first: DecUint, _: '-', last: DecUint }).parse_next(input)
 }
 
 #[test]

@@ -7,6 +7,9 @@ use std::io::{self, Read, Write};
 /// The maximum length of a head, or of a body.
 const ROOM: usize = 4096;
 
+/// The maximum number of bytes of a chunked body that are not data.
+const MOST_OTHERS: usize = 16384;
+
 /// The reason why the connection ends: the input does, or a request is rejected with a status.
 enum Stop {
     End,
@@ -62,6 +65,9 @@ fn read_counted(input: &mut Vec<u8>, length: u64) -> Result<Vec<u8>, Stop> {
 
 fn read_chunked(input: &mut Vec<u8>) -> Result<Vec<u8>, Stop> {
     let (mut decoder, mut body) = (Chunked::new(), Vec::new());
+    // A chunk may have one byte of data, and a long extension: the limits of the decoder are for each
+    // chunk, so the sum of bytes that are not data has a limit here.
+    let mut read = 0;
     loop {
         let mut left = &input[..];
         let (is_end, needs_more) = match decoder.advance(&mut left).map_err(invalid)? {
@@ -75,7 +81,8 @@ fn read_chunked(input: &mut Vec<u8>) -> Result<Vec<u8>, Stop> {
         };
         let taken = input.len() - left.len();
         input.drain(..taken);
-        if body.len() > ROOM {
+        read += taken;
+        if body.len() > ROOM || read - body.len() > MOST_OTHERS {
             return Err(reject("413 Content Too Large"));
         }
         if is_end {
@@ -92,19 +99,19 @@ fn serve(input: &mut Vec<u8>) -> Result<(&'static str, Vec<u8>, bool), Stop> {
     let length = read_head(input)?;
     let mut fields = [Field::default(); 16];
     let head = http::head(&input[..length], &mut fields).map_err(|_| reject(FIELDS_TOO_LARGE))?;
-    let body = head.body().map_err(invalid)?;
+    let framing = head.framing();
+    let body = framing.body.map_err(invalid)?;
     // (whether the first field of this name, if there is one, has this value)
     let is = |name, value: &str| {
         head.field(name).map_or(true, |it| it.eq_ignore_ascii_case(value.as_bytes()))
     };
-    let (major, minor) = head.version();
-    if major != 1 {
+    if head.version().0 != 1 {
         return Err(reject("505 HTTP Version Not Supported"));
     }
     if !is("Transfer-Encoding", "chunked") {
         return Err(reject("501 Not Implemented"));
     }
-    let keeps = minor > 0 && is("Connection", "keep-alive");
+    let keeps = framing.persists;
     let hello = head.method() == b"GET" && head.target() == b"/hello";
     let echo = head.method() == b"POST" && head.target() == b"/echo";
     input.drain(..length);
@@ -122,9 +129,11 @@ fn serve(input: &mut Vec<u8>) -> Result<(&'static str, Vec<u8>, bool), Stop> {
 
 /// Sends a response. Returns whether the connection stays open.
 fn answer(status: &str, text: &[u8], keeps: bool) -> bool {
-    let connection = if keeps { "" } else { "Connection: close\r\n" };
+    let connection = if keeps { "keep-alive" } else { "close" };
     let length = text.len();
-    let head = format!("HTTP/1.1 {status}\r\nContent-Length: {length}\r\n{connection}\r\n");
+    let head = format!(
+        "HTTP/1.1 {status}\r\nContent-Length: {length}\r\nConnection: {connection}\r\n\r\n"
+    );
     let mut out = io::stdout().lock();
     let sent = out.write_all(&[head.as_bytes(), text].concat()).and_then(|()| out.flush());
     sent.is_ok() && keeps

@@ -15,12 +15,14 @@
 mod body;
 mod error;
 mod extent;
+mod framing;
 mod response;
 mod trailers;
 
 pub use self::body::{request_body, response_body, Body, BodyError};
 pub use self::error::HeadError;
 pub use self::extent::HeadExtent;
+pub use self::framing::Framing;
 #[cfg(feature = "alloc")]
 pub use self::response::response_head_grown;
 pub use self::response::{response_head, response_head_partial, ResponseHead};
@@ -94,9 +96,28 @@ impl<'i, 'f> Head<'i, 'f> {
         find(self.bytes, self.fields, name)
     }
 
-    /// Returns the length of the body, as [`request_body`].
+    /// Returns where the request ends, or why a server must respond with status 400 and close the
+    /// connection, and whether the connection persists after it. Parses nothing again, and does not
+    /// allocate.
+    ///
+    /// ```
+    /// use pergidau::http::{self, Body, Field};
+    ///
+    /// let text = b"PUT / HTTP/1.1\r\nHost: a\r\nContent-Length: 3\r\nConnection: close\r\n\r\n";
+    /// let mut fields = [Field::default(); 4];
+    /// let framing = http::head(text, &mut fields)?.framing();
+    /// assert_eq!((framing.body, framing.persists), (Ok(Body::Length(3)), false));
+    /// let framing = http::head(b"GET / HTTP/1.1\r\nHost: a b\r\n\r\n", &mut fields)?.framing();
+    /// assert_eq!(framing.rejected, Some(&b"a b"[..]));
+    /// # Ok::<(), pergidau::Error>(())
+    /// ```
+    pub fn framing(&self) -> Framing<'i> {
+        framing::of_request(self.bytes, &self.places, self.fields)
+    }
+
+    /// Returns the length of the body, as [`framing`](Head::framing).
     pub fn body(&self) -> Result<Body, BodyError> {
-        request_body(&self.bytes[..self.places.length])
+        self.framing().body
     }
 
     /// Returns the input after the head.

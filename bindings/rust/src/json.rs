@@ -37,6 +37,7 @@ mod lookup;
 mod nodes;
 mod scalars;
 mod steps;
+mod write;
 
 pub use diagnostic::{diagnose, Diagnostic, Expected};
 pub use extent::Extent;
@@ -45,6 +46,9 @@ pub use nodes::{nodes, Item, ItemElements, ItemMembers, Node, Nodes};
 pub use nodes::OwnedNodes;
 pub use scalars::{unescape, Decimal};
 pub use steps::{steps, Step, Steps};
+#[cfg(feature = "alloc")]
+pub use write::append_string;
+pub use write::write_string;
 
 /// The type of a value.
 #[derive(Clone, Copy, Debug, PartialEq, Eq)]
@@ -63,6 +67,22 @@ pub enum Kind {
     Array,
     /// An object.
     Object,
+}
+
+impl Kind {
+    /// Returns the kind of this number, which is not that of a name or a bracket.
+    fn of(number: u32) -> Kind {
+        match number {
+            exports::JSON_NULL => Kind::Null,
+            exports::JSON_FALSE => Kind::False,
+            exports::JSON_TRUE => Kind::True,
+            exports::JSON_NUMBER => Kind::Number,
+            exports::JSON_STRING => Kind::String,
+            exports::JSON_ARRAY => Kind::Array,
+            exports::JSON_OBJECT => Kind::Object,
+            number => unknown(number),
+        }
+    }
 }
 
 /// A value of a JSON text: its type and its source text.
@@ -160,16 +180,7 @@ impl<'i> Inside<'i> {
             exports::END => return None,
             code => unknown(code),
         }
-        let kind = match out.kind {
-            exports::JSON_NULL => Kind::Null,
-            exports::JSON_FALSE => Kind::False,
-            exports::JSON_TRUE => Kind::True,
-            exports::JSON_NUMBER => Kind::Number,
-            exports::JSON_STRING => Kind::String,
-            exports::JSON_ARRAY => Kind::Array,
-            exports::JSON_OBJECT => Kind::Object,
-            kind => unknown(kind),
-        };
+        let kind = Kind::of(out.kind);
         let (front, left) = self.left.split_at(out.span.offset + out.span.length);
         self.left = left;
         Some(Value { kind, text: &front[out.span.offset..], max_depth: self.max_depth })

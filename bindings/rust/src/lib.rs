@@ -77,6 +77,23 @@ fn at(bytes: &[u8], place: Span) -> &[u8] {
     &bytes[place.offset..][..place.length]
 }
 
+/// Returns the double that is nearest to a decimal number; of two, the one whose last bit is 0. This
+/// includes floats of TOML, numbers of JSON and doubles of Redis. Returns `None` for other texts; the
+/// accepted ones are those of [`f64::from_str`](core::str::FromStr), which gives the same.
+///
+/// ```
+/// assert_eq!(pergidau::double(b"-2.50e1"), Some(-25.0));
+/// assert_eq!(pergidau::double("1e400"), Some(f64::INFINITY));
+/// assert_eq!(pergidau::double("1,5"), None);
+/// ```
+pub fn double(text: impl AsRef<[u8]>) -> Option<f64> {
+    let (bytes, mut out) = (text.as_ref(), 0.0);
+    // SAFETY: the pointers are those of live borrows, and the bytes are only read. The call takes up to
+    // 4 KiB of stack (measured); where there is less, the thread's guard page ends the program.
+    let code = unsafe { exports::exported_text_double(bytes.as_ptr(), bytes.len(), &mut out) };
+    (code == exports::DONE).then_some(out)
+}
+
 /// Returns the version of the linked library.
 ///
 /// ```

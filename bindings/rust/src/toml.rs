@@ -12,9 +12,12 @@
 //! assert_eq!(ports[1].as_i64(), Some(443));
 //! # Ok::<(), pergidau::toml::Error>(())
 //! ```
-pub use crate::exports::TomlNode as Node;
+mod date_times;
 
-use crate::{exports, Position, RequiredSize, Span};
+pub use crate::exports::TomlNode as Node;
+pub use date_times::{Clock, DateTime};
+
+use crate::{double, exports, Bytes, Position, RequiredSize, Span};
 #[cfg(feature = "alloc")]
 use alloc::{string::String, vec, vec::Vec};
 use core::{fmt, str};
@@ -511,7 +514,31 @@ impl<'b> Item<'b> {
 
     /// The entry of a table that has this name. It looks at each entry before it.
     pub fn get(&self, name: &str) -> Option<Item<'b>> {
-        self.entries().find(|(it, _)| *it == name).map(|(_, item)| item)
+        self.get_path(&[name.into()])
+    }
+
+    /// Returns the item at a path of names, each in the table of the one before. It looks at each
+    /// entry that precedes one of them in its table.
+    ///
+    /// ```
+    /// let document = pergidau::toml::OwnedDocument::parse("[server]\nport = 80\n", 1)?;
+    /// let port = document.root().get_path(&["server".into(), "port".into()]).unwrap();
+    /// assert_eq!(port.as_i64(), Some(80));
+    /// # Ok::<(), pergidau::toml::Error>(())
+    /// ```
+    pub fn get_path(&self, names: &[Bytes<'_>]) -> Option<Item<'b>> {
+        let mut number = 0;
+        let (parts, count) = Bytes::given(names);
+        let (text, length) = (self.text.as_ptr(), self.text.len());
+        let (nodes, size) = (self.nodes.as_ptr(), self.nodes.len());
+        // SAFETY: the pointers are those of live borrows, and only the number is written. The call takes up
+        // to 1 KiB of stack (measured); where there is less, the thread's guard page ends the program.
+        let code = unsafe {
+            exports::exported_toml_find(
+                text, length, nodes, size, self.number, parts, count, &mut number,
+            )
+        };
+        (code == exports::DONE).then_some(Item { number, ..*self })
     }
 
     /// The text, where it is a string.
@@ -538,10 +565,10 @@ impl<'b> Item<'b> {
         }
     }
 
-    /// The number that Rust reads from the text of a float.
+    /// The double that is nearest to a float, as [`double`].
     pub fn as_f64(&self) -> Option<f64> {
         match self.value() {
-            Value::Float(text) => text.parse().ok(),
+            Value::Float(text) => double(text),
             _ => None,
         }
     }

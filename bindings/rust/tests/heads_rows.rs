@@ -252,3 +252,39 @@ fn http_bodies_of_messages() {
     assert_eq!(http::response_body(b"GET", b"HTTP/1.1\r\n\r\n"), Err(BodyError::Head));
     assert_eq!(BodyError::LengthsDiffer.to_string(), "Content-Length values differ");
 }
+
+/// What is rejected, by RFC 9112, section 3.2, and whether the connection persists, by section 9.3.
+#[test]
+fn http_framings_of_heads() {
+    use http::{Body, BodyError};
+    type Row = (&'static str, Result<Body, BodyError>, Option<&'static str>, bool);
+    let rows: [Row; 9] = [
+        ("GET / HTTP/1.1\r\nHost: a\r\n\r\n", Ok(Body::None), None, true),
+        ("GET / HTTP/1.0\r\nHost: a\r\n\r\n", Ok(Body::None), None, false),
+        ("GET / HTTP/1.0\r\nConnection: Keep-Alive\r\n\r\n", Ok(Body::None), None, true),
+        ("GET / HTTP/1.1\r\nHost: a\r\nConnection: te, CLOSE\r\n\r\n", Ok(Body::None), None, false),
+        ("GET / HTTP/1.1\r\nHost: a\r\nHOST: a\r\n\r\n", Err(BodyError::ManyHosts), Some("HOST"), false),
+        ("GET / HTTP/1.1\r\nHost: a b \r\n\r\n", Err(BodyError::InvalidHost), Some("a b"), false),
+        ("GET /# HTTP/1.1\r\nHost: a\r\n\r\n", Err(BodyError::InvalidTarget), Some("/#"), false),
+        ("GET / HTTP/1.1\r\nX: y\r\n\r\n", Err(BodyError::MissingHost), None, false),
+        (
+            "GET / HTTP/1.1\r\nHost: a\r\nContent-Length: b\r\n\r\n",
+            Err(BodyError::LengthNotANumber),
+            None,
+            false,
+        ),
+    ];
+    for (text, body, rejected, persists) in rows {
+        let mut fields = Vec::new();
+        let found = http::head_grown(text.as_bytes(), &mut fields).unwrap().framing();
+        assert_eq!((found.body, found.persists), (body, persists), "{text}");
+        assert_eq!(found.rejected, rejected.map(str::as_bytes), "{text}");
+    }
+    let mut fields = Vec::new();
+    let head = http::response_head_grown(HELLO, &mut fields).unwrap();
+    assert_eq!((head.framing(b"GET").body, head.framing(b"GET").persists), (Ok(Body::Length(51)), true));
+    assert!(!head.framing(b"CONNECT").persists);
+    let text = b"HTTP/1.1 200 OK\r\n\r\n";
+    let found = http::response_head_grown(text, &mut fields).unwrap().framing(b"GET");
+    assert_eq!((found.body, found.persists, found.rejected), (Ok(Body::UntilClose), false, None));
+}

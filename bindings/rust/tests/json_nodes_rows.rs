@@ -42,6 +42,11 @@ fn nodes_of_texts() {
         same(nodes.root(), value);
         same(OwnedNodes::parse(text, 4).unwrap().root(), value);
         assert_eq!(nodes.nodes().len(), OwnedNodes::parse(text, 4).unwrap().nodes().nodes().len());
+        for (index, node) in nodes.nodes().iter().enumerate() {
+            let item = nodes.item(index).map(|it| it.text());
+            assert_eq!(item, Some(&text[node.start..node.end]));
+        }
+        assert!(nodes.item(nodes.nodes().len()).is_none());
     }
 }
 

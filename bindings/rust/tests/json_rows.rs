@@ -253,3 +253,27 @@ fn extent_of_pieces() {
     assert_eq!(Extent::new(1).finish(b"[1"), Err(Error::Invalid(Some(2))));
     assert_eq!(Extent::new(pergidau::MAX_DEPTH + 1).advance(b"1"), Err(Error::MaxDepthTooLarge));
 }
+
+/// The expected strings are those of Python's `json.dumps(text, ensure_ascii=False)`.
+#[test]
+fn written_strings() {
+    let rows = [
+        ("", "\"\""),
+        ("milk, \"fresh\"", "\"milk, \\\"fresh\\\"\""),
+        ("C:\\x/y", "\"C:\\\\x/y\""),
+        ("a\u{8}\t\n\u{c}\r\u{1f}\u{7f}", "\"a\\b\\t\\n\\f\\r\\u001f\u{7f}\""),
+        ("\u{1f600}\0", "\"\u{1f600}\\u0000\""),
+    ];
+    for (text, want) in rows {
+        let mut out = b"[".to_vec();
+        json::append_string(text, &mut out).unwrap();
+        assert_eq!(std::str::from_utf8(&out[1..]), Ok(want));
+        let mut buffer = [0; 64];
+        assert_eq!(json::write_string(text, &mut buffer), Ok(want.len()));
+        assert_eq!(&buffer[..want.len()], want.as_bytes());
+        let small = json::write_string(text, &mut buffer[..want.len() - 1]).unwrap_err();
+        let bytes = want.len();
+        assert_eq!(small, Error::BufferTooSmall(RequiredSize { entries: 0, bytes }));
+        assert_eq!(json::parse(want, 0).unwrap().to_str().unwrap().as_deref(), Some(text));
+    }
+}

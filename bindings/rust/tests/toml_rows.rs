@@ -1,6 +1,8 @@
 //! Tables of TOML documents. The expected values are those of Python's tomllib, and of the examples in
 //! the standard.
-use pergidau::toml::{self, Date, Error, Expected, Item, Node, Reason, Time, Value};
+use pergidau::toml::{
+    self, Clock, Date, DateTime, Error, Expected, Item, Node, Reason, Time, Value,
+};
 
 /// Formats the contents of a document: tables in braces, arrays in brackets.
 fn said(item: Item<'_>) -> String {
@@ -132,4 +134,54 @@ fn owned_documents_grow() {
     let text: String = (0..99).map(|number| format!("[s{number}]\nk = {number}\n")).collect();
     let document = pergidau::pairs::OwnedDocument::parse(text.as_bytes()).unwrap();
     assert_eq!(document.sections().map(|it| it.pairs().len()).sum::<usize>(), 99);
+}
+
+/// The expected parts are those of Python's tomllib; the digits after the ninth are truncated.
+#[test]
+fn date_times_are_numbers() {
+    let date = Some(Date { year: 1979, month: 5, day: 27 });
+    let clock = |hour, minute, nanosecond| Some(Clock { hour, minute, second: 0, nanosecond });
+    let rows = [
+        ("1979-05-27T00:32:00.999999-07:00", date, clock(0, 32, 999_999_000), Some(-420)),
+        ("1979-05-27 07:32:00Z", date, clock(7, 32, 0), Some(0)),
+        ("1979-05-27T07:32:00.0123456789999", date, clock(7, 32, 12_345_678), None),
+        ("1979-05-27", date, None, None),
+        ("07:32:00.5", None, clock(7, 32, 500_000_000), None),
+    ];
+    for (text, date, time, offset) in rows {
+        let wanted = DateTime { date, time, offset };
+        assert_eq!(DateTime::parse(text), Ok(wanted), "{text}");
+        let document = toml::OwnedDocument::parse(&format!("a = {text}"), 0).unwrap();
+        let item = document.root().get("a").unwrap();
+        assert_eq!(item.as_date_time(), Some(wanted), "{text}");
+    }
+    for text in ["", "1979-02-29", "24:00:00", "07:32:00Z", "1979-05-27T"] {
+        assert_eq!(DateTime::parse(text), Err(pergidau::Error::Invalid(None)), "{text}");
+    }
+    let document = toml::OwnedDocument::parse("a = '07:32:00'\nb = 1.5e3\n", 0).unwrap();
+    assert_eq!(document.root().get("a").and_then(|it| it.as_date_time()), None);
+    assert_eq!(document.root().get("b").and_then(|it| it.as_f64()), Some(1500.0));
+}
+
+#[test]
+fn paths_find_what_the_document_has() {
+    let text = "a = 1\n\"\" = 2\n[b]\nc = [3, {d = 4}]\n[b.e.f]\ng = 5\n\"a.b\" = 7\n";
+    let document = toml::OwnedDocument::parse(text, 8).unwrap();
+    let find = |item: Item<'_>, names: &[&str]| {
+        let names: Vec<_> = names.iter().map(|&name| name.into()).collect();
+        item.get_path(&names).map(|it| it.as_i64())
+    };
+    let root = document.root();
+    assert_eq!(find(root, &["a"]), Some(Some(1)));
+    assert_eq!(find(root, &[""]), Some(Some(2)));
+    assert_eq!(find(root, &["b", "e", "f", "g"]), Some(Some(5)));
+    assert_eq!(find(root, &["b", "e", "f", "a.b"]), Some(Some(7)));
+    assert_eq!(find(root, &["b", "c"]), Some(None));
+    assert!(find(root, &[]).is_some());
+    let below = root.get("b").unwrap();
+    assert_eq!(find(below, &["e", "f", "g"]), Some(Some(5)));
+    for names in [&["A"][..], &["b", ""], &["b.e"], &["b", "c", ""], &["b", "c", "d"], &["a", "a"]] {
+        assert_eq!(find(root, names), None, "{names:?}");
+    }
+    assert_eq!(find(below, &["a"]), None);
 }

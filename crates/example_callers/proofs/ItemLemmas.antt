@@ -1,8 +1,7 @@
 -- Lemmas that derive properties of all items of an iterator from the call that stopped it.
 use Rattle.std.proofs.Common.{◌≡◌, ◌∙◌, List, ◌⊎◌, Ok, Err, inl, inr, subst, sym}
 use Rattle.winnow.specs.Input.{Input}
-use Rattle.winnow.specs.Iterator.{IteratorState, IteratorStops, done, finish_answer}
-use Rattle.winnow.specs.Iterator.{stopped}
+use Rattle.winnow.specs.Iterator.{IteratorState, IteratorStops, done, finish_answer, stopped}
 use Rattle.winnow.specs.Iterator.Inversion.{finish_failed, finish_succeeded}
 use Rattle.winnow.specs.Kind.{Kind, backtrack}
 use Rattle.winnow.specs.Runs.{Runs}

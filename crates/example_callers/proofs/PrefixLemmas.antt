@@ -10,10 +10,8 @@ use Rattle.winnow.specs.AsChar.{IsDecDigit}
 use Rattle.winnow.specs.Counted.{counted_reading}
 use Rattle.winnow.specs.Equal.{same_first, same_others}
 use Rattle.winnow.specs.Grammar.Inversion.{slice_for}
-use Rattle.winnow.specs.Texts.{BothText, Itself, Members, NotFirst}
-use Rattle.winnow.specs.Texts.{Spelled, Text}
-use Rattle.winnow.specs.Prefixes.{FollowedBy, IsDelimitedBy, IsFirstInvalid, IsNonempty}
-use Rattle.winnow.specs.Prefixes.{IsPrefixOf}
+use Rattle.winnow.specs.Texts.{BothText, Itself, Members, NotFirst, Spelled, Text}
+use Rattle.winnow.specs.Prefixes.{FollowedBy, IsDelimitedBy, IsFirstInvalid, IsNonempty, IsPrefixOf}
 use Rattle.winnow.specs.Prefixes.Parts.{between_of, members_prefix, no_front}
 use Rattle.example_callers.specs.Prefixes.{IsDigitOr, IsMarkedPrefix, IsTimePrefix}
 use Rattle.example_callers.specs.Times.{Digits, MarkedText}

@@ -2,7 +2,6 @@
 use Rattle.std.specs.Prelude.{◌≡◌, ◌↔◌, ℕ, List, [], ◌∷◌, None, max}
 use Rattle.std.specs.Borrow.{Bor}
 use Rattle.std.specs.List.{FoldsTo, fold}
-use Rattle.std.specs.Str.{encode_utf8_all}
 use Rattle.std.specs.declared.vec.Vec.{Vec}
 use Rattle.std.proofs.Common.{◌∙◌, ap, refl, subst, sym}
 use Rattle.example_callers.specs.Premises.{Greatest, Octet, One, UpToMark}
@@ -18,7 +17,6 @@ use Rattle.winnow.specs.Grammar.Till.{Till, UpTo}
 use Rattle.winnow.specs.Integer.{unsigned_value}
 use Rattle.winnow.specs.IntegerGrammar.{integer_says}
 use Rattle.winnow.specs.Range.{bounds_of, from_to}
-use Rattle.winnow.specs.Text.{text_reading}
 
 -- a token is its own output
 pub one_alike : IsAlike (λ x. x) One
@@ -30,14 +28,6 @@ unfolding Counted
 counted_alike n = record {
   alike = λ tokens o p rest other (f, many, shown, e) (g, so_many, shows, d).
       shown ∙ (same_beginnings f g rest other (many ∙ sym so_many) (sym e ∙ d)).0 ∙ sym shows;
-}
-
-pub text_alike : (n : ℕ) → IsAlike (λ (slice : Bor (List ℕ)). slice.now) (Counted text_reading n)
-unfolding Counted
-text_alike n = record {
-  alike = λ tokens o p rest other (f, many, shown, e) (g, so_many, shows, d).
-      let same = same_beginnings f g rest other (many ∙ sym so_many) (sym e ∙ d) in
-      shown ∙ ap encode_utf8_all same.0 ∙ sym shows;
 }
 
 pub decided_by : {F T O H U : Type 0} (makes : F → O → H → Type 0) (f : F) (says : O → H → Type 0)

@@ -1,14 +1,12 @@
--- Grammars of the callers in `premises`, over bytes and characters.
-use Rattle.std.specs.Prelude.{◌≡◌, ◌+◌, ◌<◌, ℕ, List, [], ◌∷◌, None, max}
+-- Grammars of the callers in `premises`.
+use Rattle.std.specs.Prelude.{◌≡◌, ◌+◌, ◌<◌, ℕ, List, None, max}
 use Rattle.std.specs.Borrow.{Bor}
 use Rattle.std.specs.List.{fold}
-use Rattle.std.specs.Str.{chars}
 use Rattle.std.specs.declared.vec.Vec.{Vec}
 use Rattle.example_callers.specs.Words.{Word}
-use Rattle.winnow.specs.AsChar.{IsAlpha}
 use Rattle.winnow.specs.Counted.{counted_reading}
 use Rattle.winnow.specs.EndiannessCases.{Big}
-use Rattle.winnow.specs.Grammar.{Class, Counted, Gathered, Grammar, Literally, Many, Token}
+use Rattle.winnow.specs.Grammar.{Counted, Gathered, Grammar, Many, Token}
 use Rattle.winnow.specs.Grammar.Decided.{FlatMapped}
 use Rattle.winnow.specs.Grammar.Lengths.{Inside, Sized, Times}
 use Rattle.winnow.specs.Grammar.Meaning.{Meaning}
@@ -16,7 +14,6 @@ use Rattle.winnow.specs.Grammar.Till.{UpTo}
 use Rattle.winnow.specs.Integer.{unsigned_value}
 use Rattle.winnow.specs.IntegerGrammar.{Integer}
 use Rattle.winnow.specs.Range.{from_to}
-use Rattle.winnow.specs.Text.{text_reading}
 
 -- a token, which stands for itself
 abbrev pub One : Grammar ℕ ℕ
@@ -39,20 +36,6 @@ abbrev pub LettersOfTwo : Grammar ℕ (Bor (List ℕ))
 LettersOfTwo =
     Meaning (λ (two : Bor (List ℕ)) u. (rest : List ℕ) × Word two.now u rest)
     (Counted counted_reading 2)
-
--- The longest prefix of letters of a text, at least one.
-abbrev pub TextLetters : Grammar ℕ (Bor (List ℕ))
-TextLetters = Class IsAlpha 1 (λ c. c) (λ c. c) text_reading
-
--- two characters that begin with letters: these
-abbrev pub TextLettersOfTwo : Grammar ℕ (Bor (List ℕ))
-TextLettersOfTwo =
-    Meaning (λ (two : Bor (List ℕ)) u. (rest : List ℕ) × TextLetters (chars two.now) u rest)
-    (Counted text_reading 2)
-
--- a character that stands for itself
-abbrev pub Character : ℕ → Grammar ℕ ℕ
-Character = Literally text_reading (λ c xs. xs ≡ c ∷ []) (λ c _. c)
 
 -- a token, and the same once more
 abbrev pub Twice : (ℕ → Grammar ℕ ℕ) → Grammar ℕ ℕ

@@ -1,7 +1,6 @@
 //! The place of a word in a stream: a call that reads by a grammar says between which places.
 ghost use Rattle.winnow.specs.Does.{Ran};
-ghost use Rattle.std.specs.Prelude.{false, IfErr, IfOk};
-ghost use Rattle.std.specs.Prelude.{◌≡◌};
+ghost use Rattle.std.specs.Prelude.{false, IfErr, IfOk, ◌≡◌};
 ghost use Rattle.example_callers.specs.Places.{IsPlaced, KeyAndMark};
 ghost use Rattle.winnow.specs.AsChar.{IsAlpha};
 ghost use Rattle.winnow.specs.Class.{CharIsFunction};

@@ -7,7 +7,7 @@ use Rattle.winnow.specs.{Infix, Postfix}
 use Rattle.winnow.specs.OperatorGrammar.{Grammar}
 use Rattle.winnow.specs.Operators.{fold_of}
 use Rattle.winnow.specs.Alike.{AlikeInfix}
-use Rattle.winnow.specs.Items.{Gives, GivesOne}
+use Rattle.winnow.specs.Items.{FoldGives, GivesAtMostOne}
 use Rattle.winnow.specs.Items.Premises.{gives_alike, gives_both_alike}
 use Rattle.winnow.specs.OneTree.{IsTheOneTree}
 use Rattle.winnow.specs.Premises.{AlikePostfix, FoldAlike, FoldsAlike}
@@ -17,27 +17,27 @@ use Rattle.example_formulas.specs.declared.sizes.Scale.{Scale}
 use Rattle.example_formulas.specs.Sizes.{sign_value, unit_value}
 
 -- a unit, or a sign, gives one number
-pub one_unit : (unit : Scale) (v : ℕ) → GivesOne (unit_value unit v)
+pub one_unit : (unit : Scale) (v : ℕ) → GivesAtMostOne (unit_value unit v)
 one_unit unit v x y is was = is.0 ∙ sym was.0
 
-pub one_sign : (sign : Sign) (v w : ℕ) → GivesOne (sign_value sign v w)
+pub one_sign : (sign : Sign) (v w : ℕ) → GivesAtMostOne (sign_value sign v w)
 one_sign Plus v w x y is was = is.0 ∙ sym was.0
 one_sign Times v w x y is was = is.0 ∙ sym was.0
 
 pub same_units : {T : Type 0} (o p : Postfix Scale) → o ≡ p
-    → AlikePostfix (FoldAlike {T = T} (λ v w. v ≡ w) (λ f i v a j. Gives (unit_value f v) i a j)) o
-    p
+    → AlikePostfix
+    (FoldAlike {T = T} (λ v w. v ≡ w) (λ f i v a j. FoldGives (unit_value f v) i a j)) o p
 same_units {T} o p same =
     let P : Postfix Scale → Type 0 = λ z. AlikePostfix
-    (FoldAlike {T = T} (λ v w. v ≡ w) (λ f i v a j. Gives (unit_value f v) i a j)) o z in
+    (FoldAlike {T = T} (λ v w. v ≡ w) (λ f i v a j. FoldGives (unit_value f v) i a j)) o z in
     subst P same (refl, gives_alike unit_value o.1 (one_unit o.1))
 
 pub same_signs : {T : Type 0} (o p : Infix Sign) → o ≡ p
-    → AlikeInfix (FoldsAlike {T = T} (λ v w. v ≡ w) (λ f i v w a j. Gives (sign_value f v w) i a j))
-    o p
+    → AlikeInfix
+    (FoldsAlike {T = T} (λ v w. v ≡ w) (λ f i v w a j. FoldGives (sign_value f v w) i a j)) o p
 same_signs {T} o p same =
     let P : Infix Sign → Type 0 = λ z. AlikeInfix
-    (FoldsAlike {T = T} (λ v w. v ≡ w) (λ f i v w a j. Gives (sign_value f v w) i a j)) o z in
+    (FoldsAlike {T = T} (λ v w. v ≡ w) (λ f i v w a j. FoldGives (sign_value f v w) i a j)) o z in
     subst P same (refl, refl, refl, gives_both_alike sign_value (fold_of o) (one_sign (fold_of o)))
 
 -- a run is exact from states, and at a level, that are these

@@ -9,10 +9,10 @@ ghost use Rattle.example_formulas.specs.Sizes.{HasOneTree, SizeStates, marks_of,
 ghost use Rattle.example_formulas.specs.Sizes.{sign_value, size_states, unit_marks, unit_value};
 ghost use Rattle.winnow.specs.Does.{Ran};
 ghost use Rattle.winnow.specs.Parts.{did_grammar};
-ghost use Rattle.winnow.specs.Items.{Gives};
+ghost use Rattle.winnow.specs.Items.{FoldGives};
 ghost use Rattle.winnow.specs.Items.Premises.{gives_ends};
 ghost use Rattle.winnow.specs.OneTree.{IsTheOneTree};
-ghost use Rattle.winnow.specs.Premises.Decided.{Stays};
+ghost use Rattle.winnow.specs.Premises.Decided.{KeepsState};
 
 use std::alloc::Allocator;
 use winnow::Parser;
@@ -75,7 +75,7 @@ fn joined(sign: Sign, left: u32, right: u32) -> Option<u32>
 }
 
 impl<I: Stream, E: ParserError<I>> FoldUnary<I, u32, E> for Scale {
-    ghost folds = { λ form f i v a j. Gives (unit_value f v) i a j };
+    ghost folds = { λ form f i v a j. FoldGives (unit_value f v) i a j };
 
     ghost leaves_ends = { λ form f i v a j r. gives_ends I.reading (unit_value f v) i j a r };
 
@@ -88,7 +88,7 @@ impl<I: Stream, E: ParserError<I>> FoldUnary<I, u32, E> for Scale {
 }
 
 impl<I: Stream, E: ParserError<I>> FoldBinary<I, u32, E> for Sign {
-    ghost folds = { λ form f i v w a j. Gives (sign_value f v w) i a j };
+    ghost folds = { λ form f i v w a j. FoldGives (sign_value f v w) i a j };
 
     ghost leaves_ends = { λ form f i v w a j r. gives_ends I.reading (sign_value f v w) i j a r };
 
@@ -122,14 +122,16 @@ fn sign_clones_are_equal()
 
 /// States that a call of the parser of a number keeps its state and the input's status.
 fn a_number_stays<O: Uint>()
-    ensures { Stays (Ran bytes_reading ⟦<DecUint as Parser<Bytes, O, EmptyError>>⟧.does plain) tt }
+    ensures { KeepsState (Ran bytes_reading ⟦<DecUint as Parser<Bytes, O, EmptyError>>⟧.does plain)
+        tt }
 {}
 
 /// States that a call of two marks keeps its state and the input's status, unless it is out of
 /// memory.
 fn marks_stay<O: Clone>()
     ensures { (x : ℕ) (y : ℕ) (u : O) (v : O)
-        → Stays (Ran bytes_reading ⟦<Marks<Bytes, O> as Parser<Bytes, O, EmptyError>>⟧.does plain)
+        → KeepsState
+        (Ran bytes_reading ⟦<Marks<Bytes, O> as Parser<Bytes, O, EmptyError>>⟧.does plain)
         ((x, u), (y, v)) }
 {}
 

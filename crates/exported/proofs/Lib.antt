@@ -6,6 +6,7 @@ pub mod Entries
 pub mod ErrorKinds
 pub mod Extent
 pub mod HeadExtent
+pub mod HttpFraming
 pub mod IniEntries
 pub mod IniLookups
 pub mod IniTexts
@@ -14,7 +15,10 @@ pub mod JsonDecimals
 pub mod JsonDiagnostics
 pub mod JsonExtent
 pub mod JsonIntegers
+pub mod JsonNodes
+pub mod JsonPointers
 pub mod JsonTexts
+pub mod JsonWrite
 pub mod Nodes
 pub mod Putting
 pub mod RecordExtent
@@ -22,4 +26,5 @@ pub mod Records
 pub mod Refusals
 pub mod Replies
 pub mod RespCommand
+pub mod TomlFind
 pub mod Turns

@@ -37,6 +37,9 @@ out_of_range = 12
 abbrev pub invalid_dialect : ℕ
 invalid_dialect = 13
 
+abbrev pub invalid_pointer : ℕ
+invalid_pointer = 14
+
 -- the largest depth limit for JSON
 abbrev pub supported_depth : ℕ
 supported_depth = 512

@@ -10,6 +10,7 @@ pub mod Http
 pub mod HttpBody
 pub mod HttpExtent
 pub mod HttpField
+pub mod HttpFraming
 pub mod Ini
 pub mod Json
 pub mod JsonDecimal
@@ -17,12 +18,17 @@ pub mod JsonDiagnostic
 pub mod JsonExtent
 pub mod JsonInteger
 pub mod JsonMember
+pub mod JsonNodes
+pub mod JsonPointer
 pub mod JsonStep
 pub mod JsonString
+pub mod JsonWrite
 pub mod Output
 pub mod Pairs
 pub mod Resp
 pub mod Span
 pub mod Toml
+pub mod TomlDateTimes
 pub mod TomlErrors
+pub mod TomlFind
 pub mod Turns

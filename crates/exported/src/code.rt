@@ -43,3 +43,6 @@ pub const OUT_OF_RANGE: u32 = 12;
 /// Impossible dialect: delimiter, quote, carriage return and line feed must be four different
 /// bytes, and the line ending one of the constants.
 pub const INVALID_DIALECT: u32 = 13;
+
+/// Invalid JSON pointer (RFC 6901).
+pub const INVALID_POINTER: u32 = 14;

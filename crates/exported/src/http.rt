@@ -1,6 +1,6 @@
 //! Heads of requests. Submodules have the heads of responses, the errors of both, the end of a head
 //! in partial input, field lines without a first line, the fields of a name, the lengths of bodies,
-//! and chunked bodies.
+//! whether the connection persists, and chunked bodies.
 
 ghost use Rattle.std.specs.Prelude.{◌≡◌, ◌⊎◌, ◌≤◌, ◌<◌, List, drop, length, take, ℕ};
 ghost use Rattle.format_http.specs.Heads.Head.{IsHead, Pair, Request};
@@ -15,6 +15,7 @@ pub mod chunked;
 pub mod error;
 pub mod extent;
 pub mod field;
+pub mod framing;
 pub mod response;
 pub mod trailers;
 

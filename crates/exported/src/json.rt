@@ -15,10 +15,13 @@ pub mod decimal;
 pub mod diagnostic;
 pub mod extent;
 pub mod integer;
+pub mod lookup;
 pub mod member;
 pub mod nodes;
+pub mod pointer;
 pub mod step;
 pub mod string;
+pub mod write;
 
 use crate::code::{DONE, END, INVALID, INVALID_UTF8, MAX_DEPTH_TOO_LARGE};
 use crate::span::{NOWHERE, Span};
@@ -68,7 +71,7 @@ pub(crate) const NO_ITEM: JsonItem = JsonItem {
 };
 
 /// Returns the number of a type of values.
-fn number_of(kind: Kind) -> u32
+pub(crate) fn number_of(kind: Kind) -> u32
     ensures { result ≡ number_of kind }
 {
     match kind {

@@ -5,6 +5,8 @@ ghost use Rattle.std.specs.Str.{IsUtf8, chars};
 ghost use Rattle.winnow.specs.Position.{IsPosition};
 ghost use Rattle.exported.specs.Code.{done};
 
+pub mod double;
+
 use crate::code::DONE;
 use winnow::stream::position_in;
 

@@ -8,7 +8,9 @@ ghost use Rattle.exported.specs.Toml.{HasNoError, HasNoSizes, IsNoText, IsRefuse
 ghost use Rattle.exported.specs.Toml.{ShowsDocument, ShowsTree, WantsDocument, WantsTree, code_of};
 ghost use Rattle.exported.specs.Toml.{fault_of, place_of, start_or, unclosed_of};
 
+pub mod date_times;
 pub mod errors;
+pub mod find;
 
 use crate::code::{BUFFER_TOO_SMALL, DONE, INVALID, INVALID_UTF8, MAX_DEPTH_TOO_LARGE, NO_MEMORY};
 use crate::json::MAX_DEPTH;

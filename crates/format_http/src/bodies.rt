@@ -21,6 +21,6 @@ pub mod framing;
 mod invalid;
 pub mod laws;
 mod lengths;
-mod lists;
+pub(crate) mod lists;
 mod numbers;
 pub mod refusals;

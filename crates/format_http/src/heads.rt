@@ -7,6 +7,7 @@
 //! request line, and a line that starts with whitespace to continue the previous one, are not part
 //! of a head.
 pub mod field_line;
+pub mod fields;
 pub mod head;
 pub mod hosts;
 pub mod laws;

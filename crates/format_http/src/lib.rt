@@ -4,4 +4,5 @@
 
 pub mod bodies;
 pub mod heads;
+pub mod persistence;
 pub mod responses;

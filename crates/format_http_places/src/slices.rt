@@ -1,7 +1,6 @@
 //! The names and values of the fields that were read, as slices of their bytes.
 
-ghost use Rattle.std.specs.Prelude.{◌≡◌, ◌≤◌, ◌<◌, List, drop, length, map, take, ℕ};
-ghost use Rattle.format_http.specs.Heads.Head.{pair};
+ghost use Rattle.std.specs.Prelude.{◌≡◌, List, map, ℕ};
 ghost use Rattle.format_http_places.specs.Places.{ShowsHead};
 ghost use Rattle.format_http_places.specs.Responses.{ShowsResponse};
 ghost use Rattle.format_http_places.specs.Sections.{ShowsLines};
@@ -13,6 +12,7 @@ ghost use Rattle.format_http_places.specs.declared.places.ResponseHead.{Response
 
 use crate::places::{Field, Span};
 use format_http::heads::field_line;
+use format_http::heads::fields::Fields;
 
 /// Returns the bytes of a span. A span that is not within the bytes has only those that are.
 ///
@@ -33,46 +33,52 @@ pub fn slice_at(bytes: &[u8], span: Span) -> &[u8]
     &rest[..span.length.min(rest.len())]
 }
 
-/// Writes the names and values of the fields that were read from these bytes to the first entries
-/// of `slices`, in order; the others are unchanged. So [`body_length`] and [`next_field`] of
-/// `format_http` take the fields of a head without reading it again. It does not allocate.
+/// The fields that were read from these bytes, in order. So [`request_framing`], [`body_length`]
+/// and [`persists`] of `format_http` take the fields of a head without reading it again. It does
+/// not allocate.
 ///
-/// Requires an entry for each field. A position that is not within the bytes is read as by
-/// [`slice_at`].
+/// A position that is not within the bytes is read as by [`slice_at`].
 ///
+/// [`request_framing`]: format_http::bodies::refusals::request_framing
 /// [`body_length`]: format_http::bodies::framing::body_length
-/// [`next_field`]: format_http::heads::named::next_field
+/// [`persists`]: format_http::persistence::persists
 ///
 /// ```
 /// use format_http::bodies::framing::{BodyLength, Message, body_length};
-/// use format_http::heads::field_line;
 /// use format_http_places::places::{Field, Span};
 /// use format_http_places::read::read_head_into;
-/// use format_http_places::slices::write_slices;
+/// use format_http_places::slices::FieldsAt;
 ///
 /// let nowhere = Span { offset: 0, length: 0 };
 /// let mut fields = [Field { name: nowhere, value: nowhere }; 2];
 /// let text = b"PUT / HTTP/1.1\r\nHost: a\r\nContent-Length: 5\r\n\r\n".as_slice();
 /// assert!(rt; read_head_into(text, &mut fields).is_ok());
-/// let mut slices = [field_line::Field { name: b"", value: b"" }; 2];
-/// write_slices(text, &fields, &mut slices);
-/// let length = body_length(Message::Request, 1, 1, slices.as_slice());
-/// assert!(rt; length == Ok(BodyLength::Length(5)));
+/// let read = FieldsAt { bytes: text, fields: fields.as_slice() };
+/// assert!(rt; body_length(Message::Request, 1, 1, read) == Ok(BodyLength::Length(5)));
 /// ```
-pub fn write_slices<'i>(bytes: &'i [u8], fields: &[Field], slices: &mut [field_line::Field<'i>])
-    requires { length fields.now ≤ length slices.now }
-    ensures written { map pair (take (length fields.now) slices.new)
-        ≡ map (pair_at bytes.now) fields.now }
-    ensures behind { drop (length fields.now) slices.new
-        ≡ drop (length fields.now) slices.old }
-{
-    let mut at = 0;
-    while at < fields.len() {
-        slices[at] = field_line::Field {
-            name: slice_at(bytes, fields[at].name),
-            value: slice_at(bytes, fields[at].value),
-        };
-        at += 1;
+#[derive(Clone, Copy, Debug, PartialEq, Eq, Drop)]
+pub struct FieldsAt<'i, 'f> {
+    /// The bytes that were read.
+    pub bytes: &'i [u8],
+    /// The positions of the fields.
+    pub fields: &'f [Field],
+}
+
+impl<'i, 'f> Fields<'i> for FieldsAt<'i, 'f> {
+    ghost pairs = { λ at. map (pair_at at.bytes.now) at.fields.now };
+
+    #[inline(always)]
+    fn next(&mut self) -> Option<field_line::Field<'i>> {
+        let all = *self;
+        match all.fields {
+            [] => None,
+            [first, rest @ ..] => {
+                self.fields = rest;
+                let name = slice_at(all.bytes, first.name);
+                let value = slice_at(all.bytes, first.value);
+                Some(field_line::Field { name, value })
+            }
+        }
     }
 }
 

@@ -1,7 +1,9 @@
 mod Changes
 mod Elements
 mod Entries
+mod Finding
 mod Joins
+mod Nanoseconds
 mod Placed
 mod Reached
 mod Texts

@@ -13,8 +13,8 @@ use format_toml_tree::tree::Kind;
 use format_toml_tree::value::{Date, DateTime, Offset, Time, Value};
 use std::alloc::Allocator;
 
-/// The digits of the fraction of a second.
-fn fraction<A: Allocator>(date_time: &DateTime<A>) -> &str
+/// Returns the digits of the fraction of a second.
+pub(crate) fn fraction<A: Allocator>(date_time: &DateTime<A>) -> &str
     ensures { result.now ≡ fraction_of date_time.now }
 {
     match date_time {
@@ -84,8 +84,8 @@ fn minutes(offset: Offset) -> i16
     }
 }
 
-/// A date, a time or both.
-fn date_time_value<A: Allocator>(date_time: &DateTime<A>) -> TomlValue
+/// Returns the value of a date, a time or both.
+pub(crate) fn date_time_value<A: Allocator>(date_time: &DateTime<A>) -> TomlValue
     ensures { result ≡ date_time_of date_time.now }
 {
     match date_time {

@@ -1,6 +1,7 @@
 //! Choice, options, sequence and repetition, and the end of the input.
 pub mod impls;
 
+pub use crate::seq;
 pub use winnow_comb::combinator::impls::Alt;
 pub use winnow_expression::combinator::impls::Expression;
 pub use winnow_repeat::combinator::impls::Repeat;

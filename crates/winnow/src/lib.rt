@@ -21,6 +21,7 @@ pub mod combinator;
 pub mod error;
 pub mod exact;
 pub mod laws;
+mod macros;
 pub mod parsers;
 pub mod prelude;
 pub mod stream;

@@ -82,7 +82,7 @@ impl fmt::Display for BodyError {
 impl std::error::Error for BodyError {}
 
 /// Converts what a call wrote.
-fn told(code: u32, out: &exports::HttpBody) -> Result<Body, BodyError> {
+pub(super) fn told(code: u32, out: &exports::HttpBody) -> Result<Body, BodyError> {
     match (code, out.kind) {
         (exports::DONE, exports::HTTP_BODY_NONE) => Ok(Body::None),
         (exports::DONE, exports::HTTP_BODY_CHUNKED) => Ok(Body::Chunked),
@@ -116,7 +116,8 @@ fn reason_of(number: u32) -> BodyError {
 }
 
 /// Returns the length of the body of the request whose head is at the start of `bytes` (RFC 9112,
-/// section 6.3).
+/// section 6.3). [`Head::framing`](crate::http::Head::framing) does so for a head that was read,
+/// without parsing it again.
 ///
 /// A call holds up to 32 bytes of memory for each byte of the head (measured).
 ///
@@ -142,6 +143,7 @@ pub fn request_body(bytes: &[u8]) -> Result<Body, BodyError> {
 }
 
 /// Like [`request_body`], for the response to a request of this method.
+/// [`ResponseHead::framing`](crate::http::ResponseHead::framing) parses no head again.
 ///
 /// ```
 /// use pergidau::http::{response_body, Body};

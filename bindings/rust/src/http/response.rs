@@ -1,6 +1,7 @@
 //! Heads of responses.
 use super::error::error_of;
-use super::{find, response_body, Body, BodyError, Field};
+use super::framing::{of_response, Framing};
+use super::{find, Body, BodyError, Field};
 use crate::exports;
 use crate::{at, Error};
 #[cfg(feature = "alloc")]
@@ -46,10 +47,26 @@ impl<'i, 'f> ResponseHead<'i, 'f> {
         find(self.bytes, self.fields, name)
     }
 
-    /// Returns the length of the body of this response to a request of this method, as
-    /// [`response_body`].
+    /// Returns where this response to a request of this method ends, or why a client must discard it
+    /// and close the connection, and whether the connection persists after it. Parses nothing again,
+    /// and does not allocate.
+    ///
+    /// ```
+    /// use pergidau::http::{self, Body, Field};
+    ///
+    /// let text = b"HTTP/1.0 200 OK\r\nContent-Length: 3\r\nConnection: keep-alive\r\n\r\n";
+    /// let mut fields = [Field::default(); 4];
+    /// let framing = http::response_head(text, &mut fields)?.framing(b"GET");
+    /// assert_eq!((framing.body, framing.persists), (Ok(Body::Length(3)), true));
+    /// # Ok::<(), pergidau::Error>(())
+    /// ```
+    pub fn framing(&self, method: &[u8]) -> Framing<'i> {
+        of_response(method, self.bytes, &self.places, self.fields)
+    }
+
+    /// Returns the length of the body, as [`framing`](ResponseHead::framing).
     pub fn body(&self, method: &[u8]) -> Result<Body, BodyError> {
-        response_body(method, &self.bytes[..self.places.length])
+        self.framing(method).body
     }
 
     /// Returns the input after the head.

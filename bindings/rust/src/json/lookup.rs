@@ -1,6 +1,6 @@
 //! Values by the names of members and by JSON pointers.
 use super::{unknown, Inside, Kind, Value};
-use crate::exports;
+use crate::exports::{self, JsonItem};
 
 impl<'i> Value<'i> {
     /// Returns the value of the first member of this name. Names are compared with their escapes
@@ -16,7 +16,7 @@ impl<'i> Value<'i> {
         if self.kind != Kind::Object {
             return None;
         }
-        let left = after_name(self.text, self.max_depth, name, false)?;
+        let left = after_name(self.text, self.max_depth, name)?;
         Inside { left, max_depth: self.max_depth.saturating_sub(1) }.next()
     }
 
@@ -37,8 +37,8 @@ impl<'i> Value<'i> {
     /// repeated. Returns `None` if there is none, or if `pointer` is not a JSON pointer. `-`, the
     /// index after the last element, has no value.
     ///
-    /// Nothing is allocated, and each byte of the text is scanned at most twice. This is tested, but
-    /// only the search for each name is proved.
+    /// Nothing is allocated. Each byte of the text is scanned once, and once more for each token of the
+    /// pointer whose value contains it.
     ///
     /// ```
     /// let value = pergidau::json::parse("{\"a/b\": [1, {\"m~n\": 2}]}", 3)?;
@@ -48,48 +48,33 @@ impl<'i> Value<'i> {
     /// # Ok::<(), pergidau::Error>(())
     /// ```
     pub fn pointer(&self, pointer: &str) -> Option<Value<'i>> {
-        let mut tokens = pointer.split('/');
-        if tokens.next() != Some("") {
-            return None;
-        }
-        let mut inside = Inside { left: self.text, max_depth: self.max_depth };
-        for token in tokens {
-            if token.split('~').skip(1).any(|rest| !rest.starts_with(['0', '1'])) {
-                return None;
+        let mut out = JsonItem::default();
+        // SAFETY: the pointers are those of live borrows, and the bytes are only read. The call takes up to
+        // 57 KiB of stack at `MAX_DEPTH` (measured); where there is less, the thread's guard page ends
+        // the program.
+        let code = unsafe {
+            exports::exported_json_pointer(
+                self.text.as_ptr(),
+                self.text.len(),
+                self.max_depth,
+                pointer.as_ptr(),
+                pointer.len(),
+                &mut out,
+            )
+        };
+        match code {
+            exports::DONE => {
+                let text = &self.text[out.span.offset..][..out.span.length];
+                Some(Value { kind: Kind::of(out.kind), text, max_depth: self.max_depth })
             }
-            // The text was checked: whitespace and at most one separator precede the value.
-            let text = inside.left.trim_start_matches([' ', '\t', '\n', '\r', ',', ':']);
-            let max_depth = inside.max_depth.saturating_sub(1);
-            inside = if text.starts_with('{') {
-                Inside { left: after_name(text, inside.max_depth, token, true)?, max_depth }
-            } else if let Some(left) = text.strip_prefix('[') {
-                after_elements(Inside { left, max_depth }, index_of(token)?)?
-            } else {
-                return None;
-            };
+            exports::END | exports::INVALID_POINTER => None,
+            code => unknown(code),
         }
-        inside.next()
     }
-}
-
-/// Returns the index that a reference token is: digits with no leading zero.
-fn index_of(token: &str) -> Option<usize> {
-    let is_index = token.bytes().all(|byte| byte.is_ascii_digit())
-        && (token == "0" || !token.starts_with('0'));
-    if is_index { token.parse().ok() } else { None }
-}
-
-/// Skips this many elements of an array; returns `None` if it has fewer.
-fn after_elements(mut inside: Inside<'_>, index: usize) -> Option<Inside<'_>> {
-    for _ in 0..index {
-        inside.next()?;
-    }
-    Some(inside)
 }
 
 /// Returns the text after the first member name that is `name` in an object that was checked.
-/// `is_token` is for reference tokens of JSON pointers.
-pub(super) fn after_name<'i>(object: &'i str, max_depth: usize, name: &str, is_token: bool) -> Option<&'i str> {
+fn after_name<'i>(object: &'i str, max_depth: usize, name: &str) -> Option<&'i str> {
     let mut offset = 0;
     // SAFETY: the pointers are those of live borrows, and the bytes are only read. The call takes up to
     // 57 KiB of stack at `MAX_DEPTH` (measured); where there is less, the thread's guard page ends
@@ -101,7 +86,7 @@ pub(super) fn after_name<'i>(object: &'i str, max_depth: usize, name: &str, is_t
             max_depth,
             name.as_ptr(),
             name.len(),
-            u32::from(is_token),
+            0,
             &mut offset,
         )
     };

@@ -1,7 +1,6 @@
 //! All values of a JSON text as nodes.
 pub use crate::exports::JsonNode as Node;
 
-use super::lookup::after_name;
 use super::{check, unknown, Kind, Value};
 use crate::exports;
 #[cfg(feature = "alloc")]
@@ -28,6 +27,19 @@ impl<'b> Nodes<'b> {
     /// Returns all nodes, in the order of the text.
     pub fn nodes(&self) -> &'b [Node] {
         self.0.nodes
+    }
+
+    /// Returns the value or the name that a node is, by its index in [`nodes`](Nodes::nodes). Returns
+    /// `None` if there is no such node.
+    ///
+    /// ```
+    /// let nodes = pergidau::json::OwnedNodes::parse("{\"a\": [1, 2]}", 2)?;
+    /// let list = nodes.nodes().item(2).unwrap();
+    /// assert_eq!(list.text(), "[1, 2]");
+    /// # Ok::<(), pergidau::Error>(())
+    /// ```
+    pub fn item(&self, index: usize) -> Option<Item<'b>> {
+        (index < self.0.nodes.len()).then_some(Item(Entry { list: self.0, index }))
     }
 }
 
@@ -85,15 +97,9 @@ impl<'b> Item<'b> {
     /// Returns the type of the value.
     pub fn kind(&self) -> Kind {
         match self.0.node().kind {
-            exports::JSON_NULL => Kind::Null,
-            exports::JSON_FALSE => Kind::False,
-            exports::JSON_TRUE => Kind::True,
-            exports::JSON_NUMBER => Kind::Number,
             // A name is a string.
-            exports::JSON_STRING | exports::JSON_NAME => Kind::String,
-            exports::JSON_ARRAY => Kind::Array,
-            exports::JSON_OBJECT => Kind::Object,
-            kind => unknown(kind),
+            exports::JSON_NAME => Kind::String,
+            kind => Kind::of(kind),
         }
     }
 
@@ -128,7 +134,18 @@ impl<'b> Item<'b> {
     /// Returns the element of an array at this index, from 0 on. Returns `None` if there is none, or
     /// if the value is not an array.
     pub fn at(&self, index: usize) -> Option<Item<'b>> {
-        self.elements().nth(index)
+        if self.kind() != Kind::Array {
+            return None;
+        }
+        let (nodes, mut found) = (self.0.list.nodes, 0);
+        // SAFETY: the pointers are those of live borrows, and the nodes are only read. The call takes up
+        // to 4 KiB of stack (measured); with less, the thread's guard page stops the program.
+        let code = unsafe {
+            exports::exported_json_node_element(
+                nodes.as_ptr(), nodes.len(), self.0.index, index, &mut found,
+            )
+        };
+        self.looked_up(code, found)
     }
 
     /// Returns the value of the first member of this name. Names are compared with their escapes
@@ -144,23 +161,35 @@ impl<'b> Item<'b> {
     /// # Ok::<(), pergidau::Error>(())
     /// ```
     pub fn get(&self, name: &str) -> Option<Item<'b>> {
-        let mut members = self.children(Kind::Object);
-        while let Some((written, value)) = member(&mut members) {
-            let text = written.text();
-            if text.contains('\\') {
-                let object = self.text();
-                let left = after_name(object, self.0.list.input.1, name, false)?;
-                let end = self.0.node().start + object.len() - left.len();
-                let mut members = self.children(Kind::Object);
-                return core::iter::from_fn(|| member(&mut members))
-                    .find(|(written, _)| written.0.node().end == end)
-                    .map(|(_, value)| value);
-            }
-            if &text[1..text.len() - 1] == name {
-                return Some(value);
-            }
+        if self.kind() != Kind::Object {
+            return None;
         }
-        None
+        let (text, nodes, mut found) = (self.0.list.input.0, self.0.list.nodes, 0);
+        // SAFETY: the pointers are those of live borrows, and bytes and nodes are only read. The call
+        // takes up to 4 KiB of stack (measured); with less, the thread's guard page stops the program.
+        let code = unsafe {
+            exports::exported_json_node_member(
+                text.as_ptr(),
+                text.len(),
+                nodes.as_ptr(),
+                nodes.len(),
+                self.0.index,
+                name.as_ptr(),
+                name.len(),
+                0,
+                &mut found,
+            )
+        };
+        self.looked_up(code, found)
+    }
+
+    /// Returns the value at the index that a lookup found.
+    fn looked_up(&self, code: u32, index: usize) -> Option<Item<'b>> {
+        match code {
+            exports::DONE => Some(Item(Entry { list: self.0.list, index })),
+            exports::END => None,
+            code => unknown(code),
+        }
     }
 }
 

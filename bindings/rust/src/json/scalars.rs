@@ -3,7 +3,7 @@ pub use crate::exports::Decimal;
 
 use super::{unknown, Kind, Value};
 use crate::exports::{self, JsonText};
-use crate::{Error, RequiredSize};
+use crate::{double, Error, RequiredSize};
 #[cfg(feature = "alloc")]
 use alloc::{borrow::Cow, string::String, vec};
 
@@ -65,7 +65,6 @@ impl<'i> Value<'i> {
 
     /// Returns the nearest double of a number; of two, the one whose last bit is 0. `-0` gives -0.0,
     /// and a number that is too large gives an infinity. Returns `None` if the value is not a number.
-    /// The standard library converts the text, so this is not proved.
     ///
     /// ```
     /// let mut list = pergidau::json::parse("[2.50, 1e400]", 1)?.elements();
@@ -74,8 +73,8 @@ impl<'i> Value<'i> {
     /// # Ok::<(), pergidau::Error>(())
     /// ```
     pub fn as_f64(&self) -> Option<f64> {
-        // (the texts of other values do not parse)
-        self.text.parse().ok()
+        // (the texts of other values are not numbers)
+        double(self.text)
     }
 
     fn number(&self) -> Option<&'i [u8]> {

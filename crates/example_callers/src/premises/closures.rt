@@ -5,7 +5,6 @@ ghost use Rattle.std.specs.Prelude.{◌≡◌, ◌<◌, ◌↔◌, ℕ, IsTrue, 
 ghost use Rattle.winnow.specs.Bytes.{bytes_input, bytes_reading};
 ghost use Rattle.winnow.specs.Exact.{Reads};
 ghost use Rattle.winnow.specs.Grammar.Meaning.{Meaning};
-ghost use Rattle.winnow.specs.Text.{text_input, text_reading};
 
 use winnow::Parser;
 use winnow::error::{EmptyError, HasKind};
@@ -34,29 +33,6 @@ pub fn mapped_byte<'i>(input: &mut &'i [u8]) -> Result<u32, EmptyError>
     Any.map(number_of).read(input)
 }
 
-/// The code of a character.
-fn code_of(character: char) -> u32
-    ensures { result ≡ character }
-{
-    u32::from(character)
-}
-
-/// The code of the first character, by `map`. It fails, by a backtrack, where there is none.
-///
-/// ```
-/// use example_callers::premises::closures::mapped_character;
-///
-/// let mut input = "é1";
-/// assert_eq!(rt; mapped_character(&mut input), Ok(233));
-/// assert_eq!(rt; input, "1");
-/// ```
-pub fn mapped_character<'i>(input: &mut &'i str) -> Result<u32, EmptyError>
-    ensures { Reads text_reading ⟦<EmptyError as HasKind>⟧.kind (Meaning (λ o u. u ≡ o) One)
-        (text_input input.old.now) result (text_input input.new.now) }
-{
-    Any.map(code_of).read(input)
-}
-
 /// Whether a byte is above the space.
 fn is_dark(byte: &u8) -> bool
     ensures { IsTrue result ↔ (32 < byte.now) }
@@ -80,31 +56,6 @@ pub fn verified_byte<'i>(input: &mut &'i [u8]) -> Result<u8, EmptyError>
         result (bytes_input input.new.now) }
 {
     Any.verify(is_dark).read(input)
-}
-
-/// Returns whether a character is greater than the space.
-fn is_behind_space(character: &char) -> bool
-    ensures { IsTrue result ↔ (32 < character.now) }
-{
-    *character > ' '
-}
-
-/// Parses a character greater than the space, by `verify`. Backtracks, without consuming input, if
-/// there is no character or another one.
-///
-/// ```
-/// use example_callers::premises::closures::verified_character;
-///
-/// let mut input = " é";
-/// assert!(rt; verified_character(&mut input).is_err());
-/// assert_eq!(rt; verified_character(&mut "é"), Ok('é'));
-/// ```
-pub fn verified_character<'i>(input: &mut &'i str) -> Result<char, EmptyError>
-    ensures { Reads text_reading ⟦<EmptyError as HasKind>⟧.kind TokenAfterSpace
-        (text_input input.old.now)
-        result (text_input input.new.now) }
-{
-    Any.verify(is_behind_space).read(input)
 }
 
 /// The value of a digit.
@@ -131,31 +82,4 @@ pub fn digit_of_bytes<'i>(input: &mut &'i [u8]) -> Result<u8, EmptyError>
         result (bytes_input input.new.now) }
 {
     Any.try_map(value_of).read(input)
-}
-
-/// The value of a digit of a text.
-fn value_of_character(character: char) -> Result<u8, ()>
-    ensures { MatchResult result (λ n. IsValue character n)
-        (λ _. (n : ℕ) → IsValue character n → ⊥) }
-{
-    match character {
-        '0'..='9' => Ok(character as u8 - 48),
-        _ => Err(()),
-    }
-}
-
-/// Parses a decimal digit of text and returns its value, by `try_map`. Backtracks if the input does
-/// not start with a digit.
-///
-/// ```
-/// use example_callers::premises::closures::digit_of_text;
-///
-/// assert_eq!(rt; digit_of_text(&mut "7a"), Ok(7));
-/// assert!(rt; digit_of_text(&mut "a").is_err());
-/// ```
-pub fn digit_of_text<'i>(input: &mut &'i str) -> Result<u8, EmptyError>
-    ensures { Reads text_reading ⟦<EmptyError as HasKind>⟧.kind Digit (text_input input.old.now)
-        result (text_input input.new.now) }
-{
-    Any.try_map(value_of_character).read(input)
 }

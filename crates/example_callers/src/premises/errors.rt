@@ -2,7 +2,6 @@
 ghost use Rattle.example_callers.specs.Premises.{One};
 ghost use Rattle.winnow.specs.Bytes.{bytes_input, bytes_reading};
 ghost use Rattle.winnow.specs.Exact.{Reads};
-ghost use Rattle.winnow.specs.Text.{text_input, text_reading};
 
 use winnow::Parser;
 use winnow::error::{EmptyError, ErrMode, HasKind};
@@ -24,23 +23,6 @@ pub fn mode_over_bytes<'i>(input: &mut &'i [u8]) -> Result<u8, ErrMode<EmptyErro
         .read(input)
 }
 
-/// The first character; `map_err` gives the error a mode. It fails, by a backtrack, where there is
-/// none.
-///
-/// ```
-/// use example_callers::premises::errors::mode_over_text;
-///
-/// assert_eq!(rt; mode_over_text(&mut "é").ok(), Some('é'));
-/// assert!(rt; mode_over_text(&mut "").is_err());
-/// ```
-pub fn mode_over_text<'i>(input: &mut &'i str) -> Result<char, ErrMode<EmptyError>>
-    ensures { Reads text_reading ⟦<ErrMode<EmptyError> as HasKind>⟧.kind One
-        (text_input input.old.now) result (text_input input.new.now) }
-{
-    Any.map_err(|error: EmptyError| ErrMode::Backtrack(error))
-        .read(input)
-}
-
 /// The first byte; `map_err_kept` leaves the error as it is. It fails, by a backtrack, where there
 /// is none.
 ///
@@ -57,22 +39,6 @@ pub fn kept_over_bytes<'i>(input: &mut &'i [u8]) -> Result<u8, EmptyError>
     Any.map_err_kept(|error: EmptyError| error).read(input)
 }
 
-/// The first character; `map_err_kept` leaves the error as it is. It fails, by a backtrack, where
-/// there is none.
-///
-/// ```
-/// use example_callers::premises::errors::kept_over_text;
-///
-/// assert_eq!(rt; kept_over_text(&mut "é"), Ok('é'));
-/// assert!(rt; kept_over_text(&mut "").is_err());
-/// ```
-pub fn kept_over_text<'i>(input: &mut &'i str) -> Result<char, EmptyError>
-    ensures { Reads text_reading ⟦<EmptyError as HasKind>⟧.kind One
-        (text_input input.old.now) result (text_input input.new.now) }
-{
-    Any.map_err_kept(|error: EmptyError| error).read(input)
-}
-
 /// The first byte; `err_into` makes the error one of its own type. It fails, by a backtrack, where
 /// there is none.
 ///
@@ -85,22 +51,6 @@ pub fn kept_over_text<'i>(input: &mut &'i str) -> Result<char, EmptyError>
 pub fn converted_over_bytes<'i>(input: &mut &'i [u8]) -> Result<u8, EmptyError>
     ensures { Reads bytes_reading ⟦<EmptyError as HasKind>⟧.kind One
         (bytes_input input.old.now) result (bytes_input input.new.now) }
-{
-    Parser::<_, _, EmptyError>::err_into::<EmptyError>(Any).read(input)
-}
-
-/// The first character; `err_into` makes the error one of its own type. It fails, by a backtrack,
-/// where there is none.
-///
-/// ```
-/// use example_callers::premises::errors::converted_over_text;
-///
-/// assert_eq!(rt; converted_over_text(&mut "é"), Ok('é'));
-/// assert!(rt; converted_over_text(&mut "").is_err());
-/// ```
-pub fn converted_over_text<'i>(input: &mut &'i str) -> Result<char, EmptyError>
-    ensures { Reads text_reading ⟦<EmptyError as HasKind>⟧.kind One
-        (text_input input.old.now) result (text_input input.new.now) }
 {
     Parser::<_, _, EmptyError>::err_into::<EmptyError>(Any).read(input)
 }

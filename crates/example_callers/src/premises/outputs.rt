@@ -1,5 +1,5 @@
 //! `parse_to`, `and_then`, `flat_map`: parsing of an output, or of the input after it.
-ghost use Rattle.example_callers.specs.Premises.{Character, LettersOfTwo, TextLettersOfTwo, Twice};
+ghost use Rattle.example_callers.specs.Premises.{LettersOfTwo, Twice};
 ghost use Rattle.std.specs.Prelude.{◌≡◌, Some};
 ghost use Rattle.winnow.specs.Bytes.{bytes_input, bytes_reading};
 ghost use Rattle.winnow.specs.Counted.{counted_reading};
@@ -7,7 +7,6 @@ ghost use Rattle.winnow.specs.Exact.{Reads};
 ghost use Rattle.winnow.specs.Grammar.{Counted};
 ghost use Rattle.winnow.specs.Grammar.Inversion.{Byte};
 ghost use Rattle.winnow.specs.Grammar.Meaning.{Meaning};
-ghost use Rattle.winnow.specs.Text.{text_input, text_reading};
 
 use winnow::Parser;
 use winnow::ascii::impls::Alpha1;
@@ -34,23 +33,6 @@ pub fn number_of_three<'i>(input: &mut &'i [u8]) -> Result<u16, EmptyError>
     take(3usize).parse_to::<u16>().read(input)
 }
 
-/// Parses three characters as a number by `FromStr`, with `parse_to`. Backtracks if there are fewer
-/// characters, or if they are not a number.
-///
-/// ```
-/// use example_callers::premises::outputs::number_of_three_characters;
-///
-/// assert_eq!(rt; number_of_three_characters(&mut "0423"), Ok(42));
-/// assert!(rt; number_of_three_characters(&mut "4é2").is_err());
-/// ```
-pub fn number_of_three_characters<'i>(input: &mut &'i str) -> Result<u16, EmptyError>
-    ensures { Reads text_reading ⟦<EmptyError as HasKind>⟧.kind
-        (Meaning (λ three n. ⟦<&'i str as ParseSlice<u16>>⟧.reads three (Some n))
-        (Counted text_reading 3)) (text_input input.old.now) result (text_input input.new.now) }
-{
-    take(3usize).parse_to::<u16>().read(input)
-}
-
 /// Parses two bytes and returns the letters that they start with, by `and_then`. Discards the rest
 /// of the two. Backtracks if there are fewer bytes, or if the first is not a letter.
 ///
@@ -64,24 +46,6 @@ pub fn number_of_three_characters<'i>(input: &mut &'i str) -> Result<u16, EmptyE
 pub fn letters_of_two<'i>(input: &mut &'i [u8]) -> Result<&'i [u8], EmptyError>
     ensures { Reads bytes_reading ⟦<EmptyError as HasKind>⟧.kind LettersOfTwo
         (bytes_input input.old.now) result (bytes_input input.new.now) }
-{
-    take(2usize).and_then(Alpha1).read(input)
-}
-
-/// Parses two characters and returns the letters that they start with, by `and_then`. Discards the
-/// rest of the two. Backtracks if there are fewer characters, or if the first is not an ASCII
-/// letter.
-///
-/// ```
-/// use example_callers::premises::outputs::letters_of_two_characters;
-///
-/// let mut input = "aébc";
-/// assert_eq!(rt; letters_of_two_characters(&mut input), Ok("a"));
-/// assert_eq!(rt; input, "bc");
-/// ```
-pub fn letters_of_two_characters<'i>(input: &mut &'i str) -> Result<&'i str, EmptyError>
-    ensures { Reads text_reading ⟦<EmptyError as HasKind>⟧.kind TextLettersOfTwo
-        (text_input input.old.now) result (text_input input.new.now) }
 {
     take(2usize).and_then(Alpha1).read(input)
 }
@@ -108,28 +72,4 @@ pub fn byte_twice<'i>(input: &mut &'i [u8]) -> Result<u8, EmptyError>
         (bytes_input input.old.now) result (bytes_input input.new.now) }
 {
     Any.flat_map(itself).read(input)
-}
-
-/// The parser of a character: the character itself.
-fn same_character(character: char) -> char
-    ensures { result ≡ character }
-{
-    character
-}
-
-/// Parses a character that occurs twice in a row, by `flat_map`: the parser of the second character
-/// is made from the first one. Backtracks if the first character does not occur twice.
-///
-/// ```
-/// use example_callers::premises::outputs::character_twice;
-///
-/// let mut input = "ééa";
-/// assert_eq!(rt; character_twice(&mut input), Ok('é'));
-/// assert!(rt; character_twice(&mut "éa").is_err());
-/// ```
-pub fn character_twice<'i>(input: &mut &'i str) -> Result<char, EmptyError>
-    ensures { Reads text_reading ⟦<EmptyError as HasKind>⟧.kind (Twice Character)
-        (text_input input.old.now) result (text_input input.new.now) }
-{
-    Any.flat_map(same_character).read(input)
 }

@@ -1,10 +1,9 @@
 //! `fold`, `repeat_till`: the item backtracks and takes tokens, and the closures stay as they are.
-ghost use Rattle.example_callers.specs.Premises.{Character, Greatest, UpToMark};
+ghost use Rattle.example_callers.specs.Premises.{Greatest, UpToMark};
 ghost use Rattle.std.specs.Prelude.{◌≡◌, max};
 ghost use Rattle.winnow.specs.Bytes.{bytes_input, bytes_reading};
 ghost use Rattle.winnow.specs.Exact.{Reads};
 ghost use Rattle.winnow.specs.Grammar.Inversion.{Byte};
-ghost use Rattle.winnow.specs.Text.{text_input, text_reading};
 
 use std::alloc::Allocator;
 use winnow::Parser;
@@ -45,41 +44,6 @@ pub fn greatest_byte<'i, A: Allocator + Copy>(
     repeat(alloc, 0.., Any).fold(least, greater).read(input)
 }
 
-/// The code to begin with.
-fn least_code() -> u32
-    ensures { result ≡ 0 }
-{
-    0
-}
-
-/// The greater of a code and that of a character.
-fn greater_code(most: u32, character: char) -> u32
-    ensures { result ≡ max most character }
-{
-    most.max(u32::from(character))
-}
-
-/// The greatest code of all characters, and 0 where there are none, by `fold`. No input
-/// makes it fail.
-///
-/// ```
-/// use example_callers::premises::repeats::greatest_code;
-///
-/// assert_eq!(rt; greatest_code(alloc, &mut "aéb"), Ok(233));
-/// assert_eq!(rt; greatest_code(alloc, &mut ""), Ok(0));
-/// ```
-pub fn greatest_code<'i, A: Allocator + Copy>(
-    alloc: A,
-    input: &mut &'i str,
-) -> Result<u32, EmptyError>
-    ensures { Reads text_reading ⟦<EmptyError as HasKind>⟧.kind Greatest
-        (text_input input.old.now) result (text_input input.new.now) }
-{
-    repeat(alloc, 0.., Any)
-        .fold(least_code, greater_code)
-        .read(input)
-}
-
 /// Parses the bytes up to the first semicolon, and the semicolon, by `repeat_till`. Backtracks if
 /// there is no semicolon. Otherwise an error is out of memory.
 ///
@@ -98,24 +62,4 @@ pub fn bytes_up_to_mark<'i, A: Allocator + Copy>(
         (bytes_input input.old.now) result (bytes_input input.new.now) }
 {
     repeat_till(alloc, 0.., Any, b';').read(input)
-}
-
-/// Parses the characters up to the first semicolon, and the semicolon, by `repeat_till`. Backtracks
-/// if there is no semicolon. Otherwise an error is out of memory.
-///
-/// ```
-/// use example_callers::premises::repeats::characters_up_to_mark;
-///
-/// let mut input = "aé;c";
-/// assert!(rt; characters_up_to_mark(alloc, &mut input).is_ok());
-/// assert_eq!(rt; input, "c");
-/// ```
-pub fn characters_up_to_mark<'i, A: Allocator + Copy>(
-    alloc: A,
-    input: &mut &'i str,
-) -> Result<(Vec<char, A>, char), EmptyError>
-    ensures { Reads text_reading ⟦<EmptyError as HasKind>⟧.kind (UpToMark (Character 59))
-        (text_input input.old.now) result (text_input input.new.now) }
-{
-    repeat_till(alloc, 0.., Any, ';').read(input)
 }

@@ -3,15 +3,15 @@
 
 ghost use Rattle.std.specs.Prelude.{◌≡◌, ◌⊎◌};
 ghost use Rattle.exported.specs.Code.{done, invalid, no_memory};
-ghost use Rattle.exported.specs.HttpBody.{FramesRequest, FramesResponse, RejectsRequest};
-ghost use Rattle.exported.specs.HttpBody.{RejectsResponse, Writes, fault_number, host_number};
-ghost use Rattle.exported.specs.HttpBody.{no_body};
+ghost use Rattle.exported.specs.HttpBody.{FramesRequest, FramesResponse, HasLength};
+ghost use Rattle.exported.specs.HttpBody.{RejectsRequest, RejectsResponse, Writes, WritesRequest};
+ghost use Rattle.exported.specs.HttpBody.{fault_number, no_body, reason_number};
 
 use crate::code::{DONE, INVALID, NO_MEMORY};
-use format_http::bodies::framing::{BodyLength, FramingError, request_body_length};
+use format_http::bodies::framing::{BodyLength, FramingError};
+use format_http::bodies::refusals::{Reason, request_framing};
 use format_http::heads::head::read_head;
-use format_http::heads::hosts::{HostError, host_error};
-use format_http::heads::targets::has_valid_target;
+use format_http::heads::hosts::HostError;
 use format_http::responses::head::{read_response_head, response_body_length};
 use std::alloc::Global;
 use winnow::error::ParserError;
@@ -99,43 +99,52 @@ fn rejected(error: u32) -> HttpBody
     HttpBody { error, ..NO_BODY }
 }
 
-/// Returns the number of an error of the Host fields.
-fn number_of(error: HostError) -> u32
-    ensures { result ≡ host_number error }
+/// Returns the number of the reason to reject a request.
+fn number_of(reason: Reason) -> u32
+    ensures { result ≡ reason_number reason }
 {
-    match error {
-        HostError::Missing => HTTP_ERROR_MISSING_HOST,
-        HostError::Many => HTTP_ERROR_MANY_HOSTS,
-        HostError::Invalid => HTTP_ERROR_INVALID_HOST,
+    match reason {
+        Reason::Target => HTTP_ERROR_INVALID_TARGET,
+        Reason::Host(HostError::Missing) => HTTP_ERROR_MISSING_HOST,
+        Reason::Host(HostError::Many) => HTTP_ERROR_MANY_HOSTS,
+        Reason::Host(HostError::Invalid) => HTTP_ERROR_INVALID_HOST,
+        Reason::Body(fault) => error_of(fault),
+    }
+}
+
+/// Returns the output for a body with this kind and this number of bytes.
+fn body_of(kind: u32, length: u64) -> HttpBody
+    ensures { HasLength result kind length }
+{
+    HttpBody {
+        kind,
+        error: HTTP_ERROR_NONE,
+        length,
     }
 }
 
 /// Returns the code and the output for the length of a body.
-fn body_of(found: Result<BodyLength, FramingError>) -> (u32, HttpBody)
+pub(crate) fn response_of(found: Result<BodyLength, FramingError>) -> (u32, HttpBody)
     ensures { Writes found result.0 result.1 }
 {
     match found {
-        Ok(BodyLength::NoBody) => (DONE, NO_BODY),
-        Ok(BodyLength::Chunked) => (DONE, kind_alone(HTTP_BODY_CHUNKED)),
-        Ok(BodyLength::Length(length)) => (
-            DONE,
-            HttpBody {
-                kind: HTTP_BODY_LENGTH,
-                length,
-                ..NO_BODY
-            },
-        ),
-        Ok(BodyLength::UntilClose) => (DONE, kind_alone(HTTP_BODY_UNTIL_CLOSE)),
-        Ok(BodyLength::Tunnel) => (DONE, kind_alone(HTTP_BODY_TUNNEL)),
+        Ok(BodyLength::NoBody) => (DONE, body_of(HTTP_BODY_NONE, 0)),
+        Ok(BodyLength::Chunked) => (DONE, body_of(HTTP_BODY_CHUNKED, 0)),
+        Ok(BodyLength::Length(length)) => (DONE, body_of(HTTP_BODY_LENGTH, length)),
+        Ok(BodyLength::UntilClose) => (DONE, body_of(HTTP_BODY_UNTIL_CLOSE, 0)),
+        Ok(BodyLength::Tunnel) => (DONE, body_of(HTTP_BODY_TUNNEL, 0)),
         Err(fault) => (INVALID, rejected(error_of(fault))),
     }
 }
 
-/// Returns the output for a body without a number of bytes.
-fn kind_alone(kind: u32) -> HttpBody
-    ensures { (result.kind ≡ kind) × (result.error ≡ 0) × (result.length ≡ 0) }
+/// Returns the code and the output for the length of the body of a request.
+pub(crate) fn request_of(found: Result<BodyLength, Reason>) -> (u32, HttpBody)
+    ensures { WritesRequest found result.0 result.1 }
 {
-    HttpBody { kind, ..NO_BODY }
+    match found {
+        Ok(length) => response_of(Ok(length)),
+        Err(reason) => (INVALID, rejected(number_of(reason))),
+    }
 }
 
 /// Returns the number of an error.
@@ -170,7 +179,9 @@ fn error_of(fault: FramingError) -> u32
 /// `DONE`: the kind is written, and the length of a body of the kind `HTTP_BODY_LENGTH`. The kind
 /// is `HTTP_BODY_NONE`, `HTTP_BODY_CHUNKED` or `HTTP_BODY_LENGTH`.
 ///
-/// A call holds up to 32 bytes of memory for each byte of the head, and does not read after it.
+/// This is the form for callers that do not read the head: it parses the head, and allocates. If
+/// `exported_http_head` has parsed it, `exported_http_request_framing` does neither. A call holds
+/// up to 32 bytes of memory for each byte of the head, and does not read after it.
 ///
 /// # Errors
 ///
@@ -196,15 +207,8 @@ pub extern "C" fn exported_http_request_body(alloc: Global, bytes: &[u8], out: &
     let mut input = bytes;
     match read_head(alloc, &mut input) {
         Ok(head) => {
-            if !has_valid_target(&head.line) {
-                *out = rejected(HTTP_ERROR_INVALID_TARGET);
-                return INVALID;
-            }
-            if let Some(error) = host_error(&head) {
-                *out = rejected(number_of(error));
-                return INVALID;
-            }
-            let (code, body) = body_of(request_body_length(&head));
+            let framing = request_framing(&head.line, head.fields.as_slice());
+            let (code, body) = request_of(framing);
             *out = body;
             code
         }
@@ -231,7 +235,9 @@ pub extern "C" fn exported_http_request_body(alloc: Global, bytes: &[u8], out: &
 ///
 /// `DONE`: the kind is written, and the length of a body of the kind `HTTP_BODY_LENGTH`.
 ///
-/// A call holds up to 32 bytes of memory for each byte of the head, and does not read after it.
+/// This is the form for callers that do not read the head: it parses the head, and allocates. If
+/// `exported_http_response_head` has parsed it, `exported_http_response_framing` does neither. A
+/// call holds up to 32 bytes of memory for each byte of the head, and does not read after it.
 ///
 /// # Errors
 ///
@@ -262,7 +268,7 @@ pub extern "C" fn exported_http_response_body(
     let mut input = bytes;
     match read_response_head(alloc, &mut input) {
         Ok(head) => {
-            let (code, body) = body_of(response_body_length(method, &head));
+            let (code, body) = response_of(response_body_length(method, &head));
             *out = body;
             code
         }

@@ -12,7 +12,7 @@ use crate::json::MAX_DEPTH;
 use format_json_extents::members::{Search, find_member};
 
 /// Returns whether a flag is set.
-fn is_set(flag: u32) -> bool
+pub(crate) fn is_set(flag: u32) -> bool
     ensures { result ≡ is_set flag }
 {
     flag != 0

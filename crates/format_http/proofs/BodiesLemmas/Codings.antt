@@ -235,6 +235,12 @@ module _ (chunked plain : Bool) (field : Pair) (fields all : List Pair)
       ends_back (inr (inl (named, x, last))) = absurd (not named)
       ends_back (inr (inr x)) = inr x
 
+  -- a coding of this field comes after `chunked`
+  pub followed_field : IsNamed transfer_encoding field.0
+      → FollowsSo chunked (quoted_parts_of field.1) → ChunkedIsFollowed all
+  followed_field named (inl (c, has)) = so_far.follows.0 (inl (c, inl (named, has)))
+  followed_field named (inr x) = so_far.follows.0 (inr (inl (named, inl x)))
+
   -- none in this field
   pub same_field : (now bare : Bool) → IsNamed transfer_encoding field.0
       → (FollowsSo chunked (quoted_parts_of field.1) → ⊥)
@@ -281,3 +287,14 @@ module _ (chunked plain : Bool) (field : Pair) (fields all : List Pair)
           inl (is_bare.1 (inl (p, λ h. lacks (inl (named, h)))), λ h. lacks (inr h))
       ends_back (inr (inl (same, x, last))) = inl (is_bare.1 (inr x), last)
       ends_back (inr (inr x)) = inr x
+
+-- after the last field
+pub no_fields : (chunked plain : Bool) (all : List Pair) → AreSame chunked plain [] all
+    → (ChunkedIsFollowed all → ⊥) × (IsTrue plain ↔ EndChunked all)
+no_fields chunked plain all so_far = (
+  λ x. elim (so_far.follows.1 x) [ inl y ↦ y.1 | inr y ↦ y ],
+  (
+    λ p. so_far.ends.0 (inl (p, λ h. h)),
+    λ e. elim (so_far.ends.1 e) [ inl y ↦ y.0 | inr y ↦ absurd y ],
+  ),
+)

@@ -1,20 +1,19 @@
 -- Lemmas about one step of the search for the length.
-use Rattle.std.specs.Prelude.{◌≡◌, ◌⊎◌, ◌↔◌, ◌++◌, ℕ, List, [], ◌∷◌, Option, Some, None, map}
-use Rattle.std.specs.Prelude.{Bool, IfSome, IsTrue}
-use Rattle.std.specs.Option.{is_some}
+use Rattle.std.specs.Prelude.{◌≡◌, ◌⊎◌, ◌↔◌, ℕ, List, ◌∷◌, Option}
 use Rattle.std.specs.Borrow.{Bor}
-use Rattle.streams.specs.Equal.{true_is_false}
-use Rattle.std.proofs.Common.{refl, sym, subst, ◌∙◌, inl, inr}
-use Rattle.std.proofs.lemmas.List.Elements.{All-head, All-tail}
+use Rattle.std.proofs.Common.{sym, subst, inl, inr}
 use Rattle.format_http.specs.Bodies.Lengths.{HasLength}
 use Rattle.format_http.specs.Bodies.Lists.{HasElement, IsElement, IsThe, parts_of}
-use Rattle.format_http.specs.Bodies.Fields.{HasOne, content_length}
-use Rattle.format_http.specs.Heads.Head.{Pair, pair}
-use Rattle.format_http.specs.Heads.Named.{HasNo, IsNamed, IsNext}
-use Rattle.format_http.specs.declared.heads.field_line.Field.{Field}
+use Rattle.format_http.specs.Bodies.Fields.{content_length}
+use Rattle.format_http.specs.Heads.Head.{Pair}
+use Rattle.format_http.specs.Heads.Named.{IsNamed}
 
 pub both_ways : {P Q R : Type 0} → (P ↔ Q) → (Q ↔ R) → P ↔ R
 both_ways x y = ((λ p. y.0 (x.0 p)), (λ r. x.1 (y.1 r)))
+
+-- the first of two does not hold
+pub skipped : {P Q : Type 0} → (P → ⊥) → Q ↔ (P ⊎ Q)
+skipped not = ((λ q. inr q), (λ x. elim x [ inl p ↦ absurd (not p) | inr q ↦ q ]))
 
 -- the element of a part is one of the whole
 pub part_has : (element part : List ℕ) (parts whole : List (List ℕ)) (text : List ℕ)
@@ -62,35 +61,6 @@ other_more found field fields text not = (there, back)
     back (inl x) = inl x
     back (inr (inl x)) = absurd (not x.0)
     back (inr (inr x)) = inr x
-
--- a field of the name
-has_front : (name : List ℕ) (before : List Field) (field : Field) (behind : List Field)
-    → IsNamed name field.name.now → HasOne name (map pair (before ++ field ∷ behind))
-has_front name [] field behind named = inl named
-has_front name (other ∷ before) field behind named =
-    inr (has_front name before field behind named)
-
--- no field has the name
-none_has : (name : List ℕ) (fields : List Field) → HasNo name fields
-    → HasOne name (map pair fields) → ⊥
-none_has name [] none has = has
-none_has name (field ∷ fields) none (inl named) =
-    All-head (λ f. IsNamed name f.name.now → ⊥) field fields none named
-none_has name (field ∷ fields) none (inr has) =
-    none_has name fields (All-tail (λ f. IsNamed name f.name.now → ⊥) field fields none) has
-
--- so the first field of a name says whether there is one
-pub has_told : (name : List ℕ) (fields : List Field) (found : Option Field) (some : Bool)
-    → IfSome found (λ field. (behind : List Field) × IsNext name fields field behind)
-    → (found ≡ None → HasNo name fields) → some ≡ is_some found
-    → IsTrue some ↔ HasOne name (map pair fields)
-has_told name fields (Some field) some (behind, next) none is = (
-  (λ t. subst (λ l. HasOne name (map pair l)) (sym next.splits)
-      (has_front name next.before field behind next.is_named)),
-  (λ x. is),
-)
-has_told name fields None some has none is =
-    ((λ t. true_is_false (sym t ∙ is)), (λ x. absurd (none_has name fields (none refl) x)))
 
 -- what a field of the name has, all have
 pub field_has : (found : Option (Bor (List ℕ))) (field : Pair) (fields : List Pair)

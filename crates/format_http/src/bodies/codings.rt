@@ -4,12 +4,11 @@
 ghost use Rattle.format_http.specs.Bodies.Codings.{ChunkedIsFollowed, EndChunked, EndsName};
 ghost use Rattle.format_http.specs.Bodies.Codings.{EndsSo, FollowsSo, HasChunked, NamesChunked};
 ghost use Rattle.format_http.specs.Bodies.Lists.{quoted_parts_of};
-ghost use Rattle.format_http.specs.Heads.Head.{pair};
 ghost use Rattle.format_http.specs.Heads.Named.{IsNamed};
-ghost use Rattle.std.specs.Prelude.{◌≡◌, ◌↔◌, ◌⊎◌, IfSome, IsTrue, None, codes, map};
+ghost use Rattle.std.specs.Prelude.{◌≡◌, ◌↔◌, ◌⊎◌, IfSome, IsTrue, None, codes};
 
 use crate::bodies::lists::{element_of, next_quoted_part};
-use crate::heads::field_line::Field;
+use crate::heads::fields::Fields;
 
 /// The last of the codings so far.
 #[derive(Clone, Copy, Drop)]
@@ -77,16 +76,17 @@ fn codings_so_far(before: Codings, list: &[u8]) -> Option<Codings>
 
 /// Returns whether the last transfer coding of all fields is `chunked`, without parameters, or
 /// `None` if a coding comes after `chunked`. All Transfer-Encoding fields are one list.
-pub(crate) fn end_chunked(fields: &[Field<'_>]) -> Option<bool>
-    ensures followed { result ≡ None → ChunkedIsFollowed (map pair fields.now) }
-    ensures last { IfSome result (λ plain. (ChunkedIsFollowed (map pair fields.now) → ⊥)
-        × (IsTrue plain ↔ EndChunked (map pair fields.now))) }
+pub(crate) fn end_chunked<'i, F: Fields<'i>>(fields: F) -> Option<bool>
+    ensures followed { result ≡ None → ChunkedIsFollowed (F.pairs fields) }
+    ensures last { IfSome result (λ plain. (ChunkedIsFollowed (F.pairs fields) → ⊥)
+        × (IsTrue plain ↔ EndChunked (F.pairs fields))) }
 {
     let mut now = Codings {
         chunked: false,
         plain: false,
     };
-    for field in fields {
+    let mut left = fields;
+    'passed: while let Some(field) = left.next() {
         if field
             .name
             .eq_ignore_ascii_case(b"transfer-encoding".as_slice())

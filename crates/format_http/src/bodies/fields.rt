@@ -2,17 +2,21 @@
 #![tactic(auto)]
 
 ghost use Rattle.format_http.specs.Bodies.Fields.{HasOne, IsNumber};
-ghost use Rattle.format_http.specs.Heads.Head.{pair};
-ghost use Rattle.std.specs.Prelude.{◌≡◌, ◌↔◌, IsTrue, map};
+ghost use Rattle.std.specs.Prelude.{◌≡◌, ◌↔◌, IsTrue};
 
-use crate::heads::field_line::Field;
-use crate::heads::named::field;
+use crate::heads::fields::Fields;
 
 /// Whether a field has this name.
-pub(crate) fn has(fields: &[Field<'_>], name: &[u8]) -> bool
-    ensures { IsTrue result ↔ HasOne name.now (map pair fields.now) }
+pub(crate) fn has<'i, F: Fields<'i>>(fields: F, name: &[u8]) -> bool
+    ensures { IsTrue result ↔ HasOne name.now (F.pairs fields) }
 {
-    field(fields, name).is_some()
+    let mut left = fields;
+    'passed: while let Some(field) = left.next() {
+        if field.name.eq_ignore_ascii_case(name) {
+            return true;
+        }
+    }
+    false
 }
 
 /// Whether two values are the same.

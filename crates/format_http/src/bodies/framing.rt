@@ -12,7 +12,7 @@ use crate::bodies::codings::end_chunked;
 use crate::bodies::fields::has;
 use crate::bodies::invalid::have_invalid;
 use crate::bodies::lengths::declared_length;
-use crate::heads::field_line::Field;
+use crate::heads::fields::Fields;
 use crate::heads::head::Head;
 use std::alloc::Allocator;
 
@@ -129,8 +129,11 @@ fn is_before(major: u8, minor: u8) -> bool
 }
 
 /// The length of a body with a transfer coding.
-fn coded_length(message: Message<'_>, fields: &[Field<'_>]) -> Result<BodyLength, FramingError>
-    ensures { IsCodedLength message.entry (map pair fields.now) result }
+fn coded_length<'i, F: Fields<'i>>(
+    message: Message<'_>,
+    fields: F,
+) -> Result<BodyLength, FramingError>
+    ensures { IsCodedLength message.entry (F.pairs fields) result }
 {
     if have_invalid(fields) {
         return Err(FramingError::InvalidCoding);
@@ -193,13 +196,13 @@ fn undeclared_length(message: Message<'_>) -> Result<BodyLength, FramingError>
 /// let twice = body_length(Message::Request, 1, 1, [coding, coding].as_slice());
 /// assert!(rt; twice == Err(FramingError::ChunkedNotLast));
 /// ```
-pub fn body_length(
+pub fn body_length<'i, F: Fields<'i>>(
     message: Message<'_>,
     major: u8,
     minor: u8,
-    fields: &[Field<'_>],
+    fields: F,
 ) -> Result<BodyLength, FramingError>
-    ensures { IsBodyLength message.entry major minor (map pair fields.now) result }
+    ensures { IsBodyLength message.entry major minor (F.pairs fields) result }
 {
     if is_without_body(message) {
         return Ok(BodyLength::NoBody);
@@ -243,6 +246,6 @@ pub fn request_body_length<A: Allocator>(head: &Head<'_, A>) -> Result<BodyLengt
         Message::Request,
         head.line.major,
         head.line.minor,
-        &head.fields,
+        head.fields.as_slice(),
     )
 }

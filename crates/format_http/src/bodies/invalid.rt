@@ -3,12 +3,11 @@
 
 ghost use Rattle.format_http.specs.Bodies.Codings.{HasInvalid, HaveInvalid};
 ghost use Rattle.format_http.specs.Bodies.Lists.{quoted_parts_of};
-ghost use Rattle.format_http.specs.Heads.Head.{pair};
-ghost use Rattle.std.specs.Prelude.{◌↔◌, IsTrue, map};
+ghost use Rattle.std.specs.Prelude.{◌↔◌, IsTrue};
 
 use crate::bodies::coding::is_coding;
 use crate::bodies::lists::{element_of, next_quoted_part};
-use crate::heads::field_line::Field;
+use crate::heads::fields::Fields;
 
 /// Whether an element of a list is neither empty nor a transfer coding.
 fn has_invalid(list: &[u8]) -> bool
@@ -27,10 +26,11 @@ fn has_invalid(list: &[u8]) -> bool
 }
 
 /// Whether an element of the Transfer-Encoding fields is neither empty nor a transfer coding.
-pub(crate) fn have_invalid(fields: &[Field<'_>]) -> bool
-    ensures { IsTrue result ↔ HaveInvalid (map pair fields.now) }
+pub(crate) fn have_invalid<'i, F: Fields<'i>>(fields: F) -> bool
+    ensures { IsTrue result ↔ HaveInvalid (F.pairs fields) }
 {
-    for field in fields {
+    let mut left = fields;
+    'passed: while let Some(field) = left.next() {
         if field
             .name
             .eq_ignore_ascii_case(b"transfer-encoding".as_slice())

@@ -4,15 +4,14 @@
 ghost use Rattle.format_http.specs.Bodies.Framing.{IsDeclaredLength, IsTextLength};
 ghost use Rattle.format_http.specs.Bodies.Lengths.{HasLength};
 ghost use Rattle.format_http.specs.Bodies.Lists.{HasElement, IsThe, parts_of};
-ghost use Rattle.format_http.specs.Heads.Head.{pair};
 ghost use Rattle.format_http.specs.declared.bodies.framing.FramingError.TheVariants.{LengthsDiffer};
-ghost use Rattle.std.specs.Prelude.{◌≡◌, ◌↔◌, ◌⊎◌, IfErr, IfOk, List, ℕ, map};
+ghost use Rattle.std.specs.Prelude.{◌≡◌, ◌↔◌, ◌⊎◌, IfErr, IfOk, List, ℕ};
 
 use crate::bodies::fields::{is_number, is_same};
 use crate::bodies::framing::{BodyLength, FramingError};
 use crate::bodies::lists::{element_of, next_part};
 use crate::bodies::numbers::number_in;
-use crate::heads::field_line::Field;
+use crate::heads::fields::Fields;
 
 /// Returns the second text if the first is the same or missing.
 fn one_of<'i>(found: Option<&'i [u8]>, other: &'i [u8]) -> Result<Option<&'i [u8]>, FramingError>
@@ -59,15 +58,16 @@ fn one_element<'i>(
 }
 
 /// The one element of all Content-Length fields, if they have one.
-fn one_length<'i>(fields: &[Field<'i>]) -> Result<Option<&'i [u8]>, FramingError>
+fn one_length<'i, F: Fields<'i>>(fields: F) -> Result<Option<&'i [u8]>, FramingError>
     ensures one { IfOk result (λ one. (text : List ℕ)
-        → HasLength text (map pair fields.now) ↔ IsThe one text) }
+        → HasLength text (F.pairs fields) ↔ IsThe one text) }
     ensures many { IfErr result (λ fault. (fault ≡ LengthsDiffer)
-        × (text : List ℕ) × (more : List ℕ) × HasLength text (map pair fields.now)
-        × HasLength more (map pair fields.now) × (text ≡ more → ⊥)) }
+        × (text : List ℕ) × (more : List ℕ) × HasLength text (F.pairs fields)
+        × HasLength more (F.pairs fields) × (text ≡ more → ⊥)) }
 {
     let mut one = None;
-    for field in fields {
+    let mut left = fields;
+    'passed: while let Some(field) = left.next() {
         if field
             .name
             .eq_ignore_ascii_case(b"content-length".as_slice())
@@ -95,8 +95,8 @@ fn length_of(text: &[u8]) -> Result<BodyLength, FramingError>
 }
 
 /// The length that the Content-Length fields say, where there are any and no coding.
-pub(crate) fn declared_length(fields: &[Field<'_>]) -> Result<BodyLength, FramingError>
-    ensures { IsDeclaredLength (map pair fields.now) result }
+pub(crate) fn declared_length<'i, F: Fields<'i>>(fields: F) -> Result<BodyLength, FramingError>
+    ensures { IsDeclaredLength (F.pairs fields) result }
 {
     match one_length(fields) {
         Ok(Some(text)) => length_of(text),

@@ -9,15 +9,14 @@
 //! responds to unknown ones with status 501 (section 6.1).
 #![tactic(auto)]
 
-ghost use Rattle.format_http.specs.Bodies.Refusals.{IsRefusal};
-ghost use Rattle.format_http.specs.Heads.Head.{pair};
-ghost use Rattle.std.specs.Prelude.{map};
+ghost use Rattle.format_http.specs.Bodies.Refusals.{IsFraming};
+ghost use Rattle.format_http.specs.Heads.Head.{request};
 
-use crate::bodies::framing::{FramingError, request_body_length};
-use crate::heads::head::Head;
+use crate::bodies::framing::{BodyLength, FramingError, Message, body_length};
+use crate::heads::fields::Fields;
 use crate::heads::hosts::{HostError, host_error};
+use crate::heads::request_line::RequestLine;
 use crate::heads::targets::has_valid_target;
-use std::alloc::Allocator;
 
 /// The reason why a server must respond to a request with status 400, from its head.
 ///
@@ -37,33 +36,39 @@ pub enum Reason {
     Body(FramingError),
 }
 
-/// Returns the reason why a server must reject the request of this head, or `None`: a target that
-/// is not [valid](crate::heads::targets::has_valid_target), or otherwise the reason of
-/// [`host_error`], or otherwise that of [`request_body_length`]. It does not allocate.
+/// Returns the length of the body of the request of this line with these fields, or the reason why
+/// a server must reject the request: a target that is not
+/// [valid](crate::heads::targets::has_valid_target), or otherwise the reason of [`host_error`], or
+/// otherwise that of [`body_length`]. It does not allocate.
 ///
 /// ```
-/// use format_http::bodies::framing::FramingError;
-/// use format_http::bodies::refusals::{Reason, refusal_of};
-/// use format_http::heads::head::read_head;
+/// use format_http::bodies::framing::{BodyLength, FramingError};
+/// use format_http::bodies::refusals::{Reason, request_framing};
+/// use format_http::heads::field_line::Field;
+/// use format_http::heads::request_line::RequestLine;
 ///
-/// let head = read_head(alloc, &mut b"GET / HTTP/1.1\r\nHost: a\r\n\r\n".as_slice());
-/// assert!(rt; matches!(head, Ok(head) if refusal_of(&head) == None));
-/// let text = b"POST / HTTP/1.1\r\nHost: a\r\nContent-Length: 4\r\nContent-Length: 5\r\n\r\n";
-/// let two = read_head(alloc, &mut text.as_slice());
-/// let differ = Some(Reason::Body(FramingError::LengthsDiffer));
-/// assert!(rt; matches!(two, Ok(head) if refusal_of(&head) == differ));
+/// let line = RequestLine { method: b"POST", target: b"/", major: 1, minor: 1 };
+/// let host = Field { name: b"Host", value: b"a" };
+/// assert!(rt; request_framing(&line, [host].as_slice()) == Ok(BodyLength::NoBody));
+/// let four = Field { name: b"Content-Length", value: b"4" };
+/// let five = Field { value: b"5", ..four };
+/// let differ = Err(Reason::Body(FramingError::LengthsDiffer));
+/// assert!(rt; request_framing(&line, [host, four, five].as_slice()) == differ);
 /// ```
-pub fn refusal_of<A: Allocator>(head: &Head<'_, A>) -> Option<Reason>
-    ensures { IsRefusal head.now.line (map pair head.now.fields.items) result }
+pub fn request_framing<'i, F: Fields<'i>>(
+    line: &RequestLine<'_>,
+    fields: F,
+) -> Result<BodyLength, Reason>
+    ensures { IsFraming (request line.now) (F.pairs fields) result }
 {
-    if !has_valid_target(&head.line) {
-        return Some(Reason::Target);
+    if !has_valid_target(line) {
+        return Err(Reason::Target);
     }
-    if let Some(error) = host_error(head) {
-        return Some(Reason::Host(error));
+    if let Some(error) = host_error(line, fields) {
+        return Err(Reason::Host(error));
     }
-    match request_body_length(head) {
-        Ok(_) => None,
-        Err(error) => Some(Reason::Body(error)),
+    match body_length(Message::Request, line.major, line.minor, fields) {
+        Ok(length) => Ok(length),
+        Err(error) => Err(Reason::Body(error)),
     }
 }

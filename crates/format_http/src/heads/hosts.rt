@@ -1,16 +1,14 @@
 //! The Host fields of a request (RFC 9112, section 3.2).
 #![tactic(auto)]
 
-ghost use Rattle.format_http.specs.Heads.Head.{pair};
-ghost use Rattle.format_http.specs.Heads.Hosts.{AreHosts, HasHostError, HasInvalidHost};
+ghost use Rattle.format_http.specs.Heads.Head.{request};
+ghost use Rattle.format_http.specs.Heads.Hosts.{AreCounted, HasHostError, HasInvalidHost};
 ghost use Rattle.format_http.specs.Heads.Hosts.{IsHostError};
-ghost use Rattle.std.specs.Prelude.{◌↔◌, IsTrue, map};
+ghost use Rattle.std.specs.Prelude.{◌↔◌, IsTrue};
 
-use crate::heads::field_line::Field;
-use crate::heads::head::Head;
+use crate::heads::fields::Fields;
 use crate::heads::request_line::RequestLine;
 use crate::heads::uris::is_host;
-use std::alloc::Allocator;
 
 /// Why a server must reject a request because of its Host fields.
 ///
@@ -29,13 +27,14 @@ pub enum HostError {
     Invalid,
 }
 
-/// Returns how many fields are named Host.
-fn hosts_in(fields: &[Field<'_>]) -> usize
-    ensures { AreHosts (map pair fields.now) result }
+/// Returns how many fields are named Host; 2 stands for two or more.
+fn hosts_in<'i, F: Fields<'i>>(fields: F) -> usize
+    ensures { AreCounted (F.pairs fields) result }
 {
     let mut hosts = 0;
-    for field in fields {
-        if field.name.eq_ignore_ascii_case(b"host".as_slice()) {
+    let mut left = fields;
+    'passed: while let Some(field) = left.next() {
+        if field.name.eq_ignore_ascii_case(b"host".as_slice()) && hosts < 2 {
             hosts += 1;
         }
     }
@@ -43,10 +42,11 @@ fn hosts_in(fields: &[Field<'_>]) -> usize
 }
 
 /// Whether a Host field has an invalid value.
-fn has_invalid_host(fields: &[Field<'_>]) -> bool
-    ensures { IsTrue result ↔ HasInvalidHost (map pair fields.now) }
+fn has_invalid_host<'i, F: Fields<'i>>(fields: F) -> bool
+    ensures { IsTrue result ↔ HasInvalidHost (F.pairs fields) }
 {
-    for field in fields {
+    let mut left = fields;
+    'passed: while let Some(field) = left.next() {
         if field.name.eq_ignore_ascii_case(b"host".as_slice()) && !is_host(field.value) {
             return true;
         }
@@ -57,7 +57,7 @@ fn has_invalid_host(fields: &[Field<'_>]) -> bool
 /// Returns the error of this number of Host fields in a request of this line, one of which has an
 /// invalid value or not.
 fn error_of(line: &RequestLine<'_>, hosts: usize, invalid: bool) -> Option<HostError>
-    ensures { IsHostError line.now hosts (IsTrue invalid) result }
+    ensures { IsHostError (request line.now) hosts (IsTrue invalid) result }
 {
     if hosts > 1 {
         return Some(HostError::Many);
@@ -71,7 +71,7 @@ fn error_of(line: &RequestLine<'_>, hosts: usize, invalid: bool) -> Option<HostE
     None
 }
 
-/// Returns why a server must respond to the request of this head with status 400 because of its
+/// Returns why a server must respond to the request of this line with status 400 because of its
 /// Host fields, or `None`: it has more than one, or none although its version is 1.1 or a later
 /// 1.x, or one with an invalid value (RFC 9112, section 3.2).
 ///
@@ -79,20 +79,22 @@ fn error_of(line: &RequestLine<'_>, hosts: usize, invalid: bool) -> Option<HostE
 /// whether the bytes of a host in brackets are an address is not examined. It does not allocate.
 ///
 /// ```
-/// use format_http::heads::head::read_head;
+/// use format_http::heads::field_line::Field;
 /// use format_http::heads::hosts::{HostError, host_error};
+/// use format_http::heads::request_line::RequestLine;
 ///
-/// let head = read_head(alloc, &mut b"GET / HTTP/1.1\r\nHost: a:80\r\n\r\n".as_slice());
-/// assert!(rt; matches!(head, Ok(head) if host_error(&head) == None));
-/// let none = read_head(alloc, &mut b"GET / HTTP/1.1\r\n\r\n".as_slice());
-/// assert!(rt; matches!(none, Ok(head) if host_error(&head) == Some(HostError::Missing)));
-/// let two = read_head(alloc, &mut b"GET / HTTP/1.1\r\nHost: a, b\r\n\r\n".as_slice());
-/// assert!(rt; matches!(two, Ok(head) if host_error(&head) == Some(HostError::Invalid)));
+/// let line = RequestLine { method: b"GET", target: b"/", major: 1, minor: 1 };
+/// let host = Field { name: b"Host", value: b"a:80" };
+/// assert!(rt; host_error(&line, [host].as_slice()) == None);
+/// assert!(rt; host_error(&line, [].as_slice()) == Some(HostError::Missing));
+/// assert!(rt; host_error(&line, [host, host].as_slice()) == Some(HostError::Many));
+/// let two = Field { value: b"a, b", ..host };
+/// assert!(rt; host_error(&line, [two].as_slice()) == Some(HostError::Invalid));
 /// ```
-pub fn host_error<A: Allocator>(head: &Head<'_, A>) -> Option<HostError>
-    ensures { HasHostError head.now.line (map pair head.now.fields.items) result }
+pub fn host_error<'i, F: Fields<'i>>(line: &RequestLine<'_>, fields: F) -> Option<HostError>
+    ensures { HasHostError (request line.now) (F.pairs fields) result }
 {
-    let hosts = hosts_in(&head.fields);
-    let invalid = has_invalid_host(&head.fields);
-    error_of(&head.line, hosts, invalid)
+    let hosts = hosts_in(fields);
+    let invalid = has_invalid_host(fields);
+    error_of(line, hosts, invalid)
 }

@@ -106,5 +106,6 @@ pub fn response_body_length<A: Allocator>(
 {
     let status = head.line.status;
     let message = Message::Response { method, status };
-    body_length(message, head.line.major, head.line.minor, &head.fields)
+    let fields = head.fields.as_slice();
+    body_length(message, head.line.major, head.line.minor, fields)
 }

@@ -10,7 +10,7 @@ use crate::fault::ReadError;
 use crate::ini::parts::{gap, key_value, section_name};
 use crate::ini::tables::NameBytes;
 use std::alloc::Allocator;
-use winnow::combinator::{preceded, repeat, terminated};
+use winnow::combinator::{preceded, repeat, seq, terminated};
 use winnow::error::{ErrMode, HasKind, InputError, ParseFault, ParserError};
 use winnow::{Func, FuncWith, Parser};
 
@@ -59,12 +59,11 @@ fn one_section<'i, A: Allocator + Copy>(
 {
     let (alloc, names) = with;
     let name = FuncWith(names, section_name);
-    (
-        terminated(name, FuncWith(alloc, gap)),
-        FuncWith(alloc, pairs),
-    )
-        .map(|(name, pairs)| Section { name, pairs })
-        .parse_next(input)
+    seq!(Section {
+        name: terminated(name, FuncWith(alloc, gap)),
+        pairs: FuncWith(alloc, pairs),
+    })
+    .parse_next(input)
 }
 
 /// All sections.

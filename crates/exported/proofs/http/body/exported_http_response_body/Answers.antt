@@ -8,7 +8,7 @@ returns-in-Ok-clause-body c _ = record {
   stands = c.in-Ok.ensures.head.stands refl;
   answer = c.response_body_length.result;
   is_answer = c.response_body_length.ensures;
-  writes = c.body_of-code.ensures;
+  writes = c.response_of-code.ensures;
 }
 
 pub returns-in-Ok-clause-refused : goal.returns-in-Ok-clause-refused
@@ -18,5 +18,5 @@ returns-in-Ok-clause-refused c _ = inr (record {
   stands = c.in-Ok.ensures.head.stands refl;
   answer = c.response_body_length.result;
   is_answer = c.response_body_length.ensures;
-  writes = c.body_of-code.ensures;
+  writes = c.response_of-code.ensures;
 })

@@ -1,11 +1,11 @@
 -- Loop invariant: the codings so far and the remaining fields have the properties of all fields.
-use Rattle.std.proofs.Common.{drop}
-use Rattle.std.specs.Prelude.{map}
+use Rattle.std.proofs.Common.{length}
 use Rattle.format_http.proofs.BodiesLemmas.Codings.{AreSame}
-use Rattle.format_http.specs.Heads.Head.{pair}
 use Rattle.format_http.proofs.bodies.codings.end_chunked.Given as goal
 
-abbrev pub invariant-loop-field : goal.invariant-loop-field
-invariant-loop-field l =
-    AreSame l.now.chunked l.now.plain (map pair (drop l.field-index l.fields))
-    (map pair l.fields)
+abbrev pub invariant-passed : goal.invariant-passed
+invariant-passed g l =
+    AreSame l.now.chunked l.now.plain (g.F.Fields.pairs l.left) (g.F.Fields.pairs l.fn.fields)
+
+abbrev pub decreases-passed : goal.decreases-passed
+decreases-passed g l = length (g.F.Fields.pairs l.left)

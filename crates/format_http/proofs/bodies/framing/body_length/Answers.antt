@@ -1,13 +1,12 @@
 use Rattle.std.proofs.Common.{inl, inr, refl, subst, sym}
-use Rattle.std.specs.Prelude.{List, map, ℕ}
-use Rattle.format_http.specs.Bodies.Fields.{HasOne, transfer_encoding}
-use Rattle.format_http.specs.Heads.Head.{pair}
+use Rattle.std.specs.Prelude.{List, ℕ}
+use Rattle.format_http.specs.Bodies.Fields.{HasOne, content_length, transfer_encoding}
 use Rattle.streams.specs.Equal.{true_is_false}
 use Rattle.format_http.proofs.bodies.framing.body_length.Goals as goal
 
 pub returns-then-is_before : goal.returns-then-is_before
-returns-then-is_before c =
-    let P : List ℕ → Type 0 = λ name. HasOne name (map pair c.args.fields.now) in
+returns-then-is_before g c =
+    let P : List ℕ → Type 0 = λ name. HasOne name (g.F.Fields.pairs c.args.fields) in
     inr (
       (λ x. true_is_false (sym (c.if-is_without_body.ensures.1 x))),
       inr (
@@ -23,8 +22,8 @@ returns-then-is_before c =
     )
 
 pub returns-then-declared : goal.returns-then-declared
-returns-then-declared c =
-    let P : List ℕ → Type 0 = λ name. HasOne name (map pair c.args.fields.now) in
+returns-then-declared g c =
+    let P : List ℕ → Type 0 = λ name. HasOne name (g.F.Fields.pairs c.args.fields) in
     inr (
       (λ x. true_is_false (sym (c.if-is_without_body.ensures.1 x))),
       inr (
@@ -43,8 +42,8 @@ returns-then-declared c =
     )
 
 pub returns-then-has : goal.returns-then-has
-returns-then-has c =
-    let P : List ℕ → Type 0 = λ name. HasOne name (map pair c.args.fields.now) in
+returns-then-has g c =
+    let P : List ℕ → Type 0 = λ name. HasOne name (g.F.Fields.pairs c.args.fields) in
     inr (
       (λ x. true_is_false (sym (c.if-is_without_body.ensures.1 x))),
       inr (
@@ -61,8 +60,8 @@ returns-then-has c =
     )
 
 pub returns-then-declared-2 : goal.returns-then-declared-2
-returns-then-declared-2 c =
-    let P : List ℕ → Type 0 = λ name. HasOne name (map pair c.args.fields.now) in
+returns-then-declared-2 g c =
+    let P : List ℕ → Type 0 = λ name. HasOne name (g.F.Fields.pairs c.args.fields) in
     let no_coding : P transfer_encoding → ⊥ =
     λ x. true_is_false (sym (c.if-has.ensures.1 (subst P (sym c.as_slice-2.ensures) x))) in
     inr (
@@ -80,6 +79,27 @@ returns-then-declared-2 c =
                 c.declared_length.ensures,
               ),
             ),
+          ),
+        ),
+      ),
+    )
+
+pub returns : goal.returns
+returns g c =
+    let P : List ℕ → Type 0 = λ name. HasOne name (g.F.Fields.pairs c.args.fields) in
+    let no_coding : P transfer_encoding → ⊥ =
+    λ x. true_is_false (sym (c.if-has.ensures.1 (subst P (sym c.as_slice-2.ensures) x))) in
+    let no_length : P content_length → ⊥ =
+    λ x. true_is_false (sym (c.if-declared-2.ensures.1 (subst P (sym c.as_slice.ensures) x))) in
+    inr (
+      (λ x. true_is_false (sym (c.if-is_without_body.ensures.1 x))),
+      inr (
+        (λ x. true_is_false (sym (c.if-is_tunnel.ensures.1 x))),
+        inr (
+          (λ x. no_coding x.1),
+          inr (
+            (λ x. no_coding x.0),
+            inr (no_coding, inr (no_length, c.undeclared_length.ensures)),
           ),
         ),
       ),

@@ -10,4 +10,4 @@ returns g c =
     let line = c.args.head.now.line in
     let P : List Field → Type 0 =
     λ l. IsBodyLength Request line.major line.minor (map pair l) c.body_length.result in
-    subst P c.deref.ensures.value c.body_length.ensures
+    subst P c.as_slice.ensures.value c.body_length.ensures

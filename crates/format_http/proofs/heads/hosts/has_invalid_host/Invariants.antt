@@ -1,10 +1,12 @@
 -- Loop invariant: a Host field is invalid where one of the remaining fields is.
-use Rattle.std.proofs.Common.{drop}
-use Rattle.std.specs.Prelude.{◌↔◌, map}
-use Rattle.format_http.specs.Heads.Head.{pair}
+use Rattle.std.proofs.Common.{length}
+use Rattle.std.specs.Prelude.{◌↔◌}
 use Rattle.format_http.specs.Heads.Hosts.{HasInvalidHost}
 use Rattle.format_http.proofs.heads.hosts.has_invalid_host.Given as goal
 
-abbrev pub invariant-loop-field : goal.invariant-loop-field
-invariant-loop-field l =
-    HasInvalidHost (map pair (drop l.field-index l.fields)) ↔ HasInvalidHost (map pair l.fields)
+abbrev pub invariant-passed : goal.invariant-passed
+invariant-passed g l =
+    HasInvalidHost (g.F.Fields.pairs l.left) ↔ HasInvalidHost (g.F.Fields.pairs l.fn.fields)
+
+abbrev pub decreases-passed : goal.decreases-passed
+decreases-passed g l = length (g.F.Fields.pairs l.left)

@@ -1,37 +1,77 @@
-use Rattle.std.proofs.Common.{◌∙◌, ℕ, ap, arith, map, refl, subst, suc, sym}
+use Rattle.std.proofs.Common.{ap, arith, inl, inr, refl, subst, suc, sym, ◌∙◌, ◌+◌, ℕ}
 use Rattle.std.specs.Char.{to_ascii_lowercase}
-use Rattle.format_http.proofs.HeadsLemmas.Hosts.{host_next, none_left, other_next}
+use Rattle.std.specs.Prelude.{List, map}
+use Rattle.format_http.specs.Heads.Head.{Pair}
 use Rattle.format_http.specs.Heads.Hosts.{AreHosts}
-use Rattle.format_http.specs.Heads.Head.{pair}
 use Rattle.streams.specs.Equal.{true_is_false}
 use Rattle.format_http.proofs.heads.hosts.hosts_in.Goals as goal
-use Rattle.format_http.proofs.heads.hosts.hosts_in.Goals.{else-eq_ignore_ascii_case}
-use Rattle.format_http.proofs.heads.hosts.hosts_in.Goals.{then-eq_ignore_ascii_case}
+use Rattle.format_http.proofs.heads.hosts.hosts_in.Goals.{
+  else-eq_ignore_ascii_case-via-then-eq_ignore_ascii_case+else-hosts-lt2,
+  else-eq_ignore_ascii_case-via-else-eq_ignore_ascii_case,
+}
 
-pub loop-field-preserved : goal.loop-field-preserved
-loop-field-preserved c =
-    let P : ℕ → Type 0 = λ n. AreHosts (map pair c.args.fields.now) n in
+pub passed-preserved-then-hosts-lt2 : goal.passed-preserved-then-hosts-lt2
+passed-preserved-then-hosts-lt2 g c =
+    let (before, counts, is) = c.passed.invariant in
+    let all = g.F.Fields.pairs c.args.fields in
+    let P : List Pair → Type 0 = λ l. (more : ℕ) → AreHosts l more → AreHosts all (before + more) in
+    let next = subst P c.in-Some.ensures counts in (
+      suc before,
+      λ more are. subst (λ n. AreHosts all n) (omega arith) (next (suc more) (inl (
+        c.if-eq_ignore_ascii_case.ensures.test.0 refl
+            ∙ ap (λ l. map to_ascii_lowercase l) c.as_slice.ensures,
+        more,
+        refl,
+        are,
+      ))),
+      elim is [
+        | inl (e, few) ↦ inl (omega (arith, e), omega (arith, e, c.if-hosts-lt2.true))
+        | inr (e, many) ↦ absurd (omega (arith, e, c.if-hosts-lt2.true))
+      ],
+    )
+
+pub passed-preserved : goal.passed-preserved
+passed-preserved g c =
+    let (before, counts, is) = c.passed.invariant in
+    let all = g.F.Fields.pairs c.args.fields in
+    let P : List Pair → Type 0 = λ l. (more : ℕ) → AreHosts l more → AreHosts all (before + more) in
+    let next = subst P c.in-Some.ensures counts in
     let spelled = ap (λ l. map to_ascii_lowercase l) c.as_slice.ensures in
-    elim c.if-eq_ignore_ascii_case.branch [
-      | then-eq_ignore_ascii_case w ↦ record {
-        counts = λ more are. subst P (omega (arith, w.hosts-is))
-            (c.loop-field.invariant.counts (suc more) (host_next c.args.fields.now
-            c.loop-field.field-index _ (omega arith) more are
-            (w.if-eq_ignore_ascii_case.ensures.test.0 refl ∙ spelled)));
-        few = omega (arith, c.loop-field.invariant.few, w.hosts-is);
-      }
-      | else-eq_ignore_ascii_case w ↦ record {
-        counts = λ more are. subst P (omega (arith, w.hosts-is))
-            (c.loop-field.invariant.counts more (other_next c.args.fields.now
-            c.loop-field.field-index _ (omega arith) more are
-            (λ is. true_is_false (sym (w.if-eq_ignore_ascii_case.ensures.test.1
-            (is ∙ sym spelled))))));
-        few = omega (arith, c.loop-field.invariant.few, w.hosts-is);
-      }
+    elim c.else-eq_ignore_ascii_case.branch [
+      | else-eq_ignore_ascii_case-via-then-eq_ignore_ascii_case+else-hosts-lt2 w ↦ (
+        suc before,
+        λ more are. subst (λ n. AreHosts all n) (omega arith) (next (suc more) (inl (
+          w.if-eq_ignore_ascii_case.ensures.test.0 refl ∙ spelled,
+          more,
+          refl,
+          are,
+        ))),
+        elim is [
+          | inl (e, few) ↦ inr (
+            omega (arith, e, few, w.if-hosts-lt2.false),
+            omega (arith, e, w.if-hosts-lt2.false),
+          )
+          | inr (e, many) ↦ inr (e, omega (arith, many))
+        ],
+      )
+      | else-eq_ignore_ascii_case-via-else-eq_ignore_ascii_case w ↦ (
+        before,
+        λ more are. next more (inr (
+          λ named. true_is_false (sym (w.if-eq_ignore_ascii_case.ensures.test.1
+              (named ∙ sym spelled))),
+          are,
+        )),
+        is,
+      )
     ]
 
 pub returns : goal.returns
-returns c =
-    let P : ℕ → Type 0 = λ n. AreHosts (map pair c.args.fields.now) n in
-    subst P (omega arith) (c.loop-field.invariant.counts 0
-    (none_left c.args.fields.now c.loop-field.field-index (omega arith)))
+returns g c =
+    let (before, counts, is) = c.passed.invariant in
+    let all = g.F.Fields.pairs c.args.fields in
+    let P : List Pair → Type 0 =
+    λ l. (more : ℕ) → AreHosts l more → AreHosts all (before + more) in (
+      before,
+      subst (λ n. AreHosts all n) (omega arith) (subst P c.in_default.ensures counts 0 refl),
+      elim is [ inl (e, few) ↦ inl e | inr x ↦ inr x ],
+    )

@@ -1,13 +1,14 @@
 -- Loop invariant: the Host fields so far and those of the remaining fields are those of all fields.
-use Rattle.std.proofs.Common.{◌+◌, ℕ, drop}
-use Rattle.std.specs.Prelude.{map, ◌≤◌}
+use Rattle.std.proofs.Common.{◌+◌, ℕ, length}
+use Rattle.std.specs.Prelude.{◌≡◌, ◌⊎◌, ◌<◌}
 use Rattle.format_http.specs.Heads.Hosts.{AreHosts}
-use Rattle.format_http.specs.Heads.Head.{pair}
 use Rattle.format_http.proofs.heads.hosts.hosts_in.Given as goal
 
-abbrev pub invariant-loop-field : goal.invariant-loop-field
-invariant-loop-field l = record {
-  counts : (more : ℕ) → AreHosts (map pair (drop l.field-index l.fields)) more
-      → AreHosts (map pair l.fields) (l.hosts + more);
-  few : l.hosts ≤ l.field-index;
-}
+abbrev pub invariant-passed : goal.invariant-passed
+invariant-passed g l =
+    (before : ℕ) × ((more : ℕ) → AreHosts (g.F.Fields.pairs l.left) more
+    → AreHosts (g.F.Fields.pairs l.fn.fields) (before + more))
+    × (((l.hosts ≡ before) × (before < 3)) ⊎ ((l.hosts ≡ 2) × (2 < before)))
+
+abbrev pub decreases-passed : goal.decreases-passed
+decreases-passed g l = length (g.F.Fields.pairs l.left)

@@ -11,4 +11,4 @@ returns g c =
     let P : List Field → Type 0 =
     λ l. IsBodyLength (response_to c.args.method.now line.status) line.major line.minor
     (map pair l) c.body_length.result in
-    subst P c.deref.ensures.value c.body_length.ensures
+    subst P c.as_slice-fields.ensures.value c.body_length.ensures
