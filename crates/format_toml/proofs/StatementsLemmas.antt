@@ -65,7 +65,8 @@ module _ {T O : Type 0} {like : O → O → Type 0} {g : Grammar T O} (keeps : K
     ];
   }
 
-  pub reads_kept : {L E : Type 0} {reading : Reading T L} {kind : E → Kind} {i j : Input T} {o p : O}
+  pub reads_kept : {L E : Type 0} {reading : Reading T L} {kind : E → Kind} {i j : Input T}
+      {o p : O}
       → like o p → Reads reading kind g i (Ok o) j → Reads reading kind g i (Ok p) j
   reads_kept {i = i} {j = j} {o = o} {p = p} same r = record {
     ends = r.ends;

@@ -180,8 +180,8 @@ pub(crate) fn read_line<'i, A: Allocator + Copy>(
 }
 
 /// Parses a document, all of the text: lines of TOML, separated by a line feed, or by a carriage
-/// return and a line feed. Returns the statements of the lines in order; a line that is blank or has
-/// only a comment has none, and takes no memory. An array may continue over line endings. The
+/// return and a line feed. Returns the statements of the lines in order; a line that is blank or
+/// has only a comment has none, and takes no memory. An array may continue over line endings. The
 /// arrays and inline tables of values are nested at most `level` deep, and each level uses some of
 /// the stack, as in [`read_value`](crate::values::read_value). Lines may state a key or a table
 /// again.
