@@ -60,7 +60,8 @@ module _ {T O : Type 0} {like : O → O → Type 0} {g : Grammar T O} (keeps : K
   optional_keeps = record {
     kept = λ tokens o p rest (x, y, e, f, same) it. elim it [
       | inl (z, d, m) ↦
-          inl (y, f, keeps.kept tokens z y rest (subst (λ v. like v y) (same_some (sym e ∙ d)) same) m)
+          let as_z = subst (λ v. like v y) (same_some (sym e ∙ d)) same in
+          inl (y, f, keeps.kept tokens z y rest as_z m)
       | inr (none, not, d) ↦ absurd (none_some (sym none ∙ e))
     ];
   }
