@@ -17,7 +17,7 @@ uint32_t exported_csv_record(
     size_t text_length,
     struct pergidau_span *fields,
     size_t fields_length,
-    struct pergidau_record *out);
+    struct pergidau_csv_record_sizes *out);
 uint32_t exported_csv_record_partial(
     const uint8_t *bytes,
     size_t bytes_length,
@@ -26,13 +26,13 @@ uint32_t exported_csv_record_partial(
     size_t text_length,
     struct pergidau_span *fields,
     size_t fields_length,
-    struct pergidau_record *out);
+    struct pergidau_csv_record_sizes *out);
 uint32_t exported_csv_record_extent(
     struct pergidau_csv_record_state *state,
     const uint8_t *bytes,
     size_t bytes_length,
     const struct pergidau_csv_dialect *dialect,
-    struct pergidau_record *out);
+    struct pergidau_csv_record_sizes *out);
 uint32_t exported_csv_write(
     const struct pergidau_bytes *fields,
     size_t fields_length,
@@ -66,13 +66,13 @@ uint32_t exported_http_head(
     size_t bytes_length,
     struct pergidau_field *fields,
     size_t fields_length,
-    struct pergidau_head *out);
+    struct pergidau_http_request *out);
 uint32_t exported_http_head_partial(
     const uint8_t *bytes,
     size_t bytes_length,
     struct pergidau_field *fields,
     size_t fields_length,
-    struct pergidau_head *out);
+    struct pergidau_http_request *out);
 uint32_t exported_http_request_body(
     const uint8_t *bytes,
     size_t bytes_length,
@@ -116,7 +116,7 @@ uint32_t exported_http_request_framing(
     size_t bytes_length,
     const struct pergidau_field *fields,
     size_t fields_length,
-    const struct pergidau_head *head,
+    const struct pergidau_http_request *head,
     struct pergidau_http_framing *out);
 uint32_t exported_http_response_framing(
     const uint8_t *method,
@@ -125,20 +125,20 @@ uint32_t exported_http_response_framing(
     size_t bytes_length,
     const struct pergidau_field *fields,
     size_t fields_length,
-    const struct pergidau_response_head *head,
+    const struct pergidau_http_response *head,
     struct pergidau_http_framing *out);
 uint32_t exported_http_response_head(
     const uint8_t *bytes,
     size_t bytes_length,
     struct pergidau_field *fields,
     size_t fields_length,
-    struct pergidau_response_head *out);
+    struct pergidau_http_response *out);
 uint32_t exported_http_response_head_partial(
     const uint8_t *bytes,
     size_t bytes_length,
     struct pergidau_field *fields,
     size_t fields_length,
-    struct pergidau_response_head *out);
+    struct pergidau_http_response *out);
 uint32_t exported_http_field_lines(
     const uint8_t *bytes,
     size_t bytes_length,
@@ -263,21 +263,21 @@ uint32_t exported_pair_document(
     size_t bytes_length,
     uint8_t *text,
     size_t text_length,
-    struct pergidau_entry *entries,
+    struct pergidau_pair_entry *entries,
     size_t entries_length,
-    struct pergidau_document *out);
+    struct pergidau_pair_sizes *out);
 uint32_t exported_resp_reply(
     const uint8_t *bytes,
     size_t bytes_length,
     uint32_t protocol,
     size_t max_depth,
-    struct pergidau_reply *out);
+    struct pergidau_resp_value *out);
 uint32_t exported_resp_reply_partial(
     const uint8_t *bytes,
     size_t bytes_length,
     uint32_t protocol,
     size_t max_depth,
-    struct pergidau_reply *out);
+    struct pergidau_resp_value *out);
 uint32_t exported_resp_extent(
     struct pergidau_resp_reply_state *state,
     const uint8_t *bytes,
@@ -692,7 +692,7 @@ enum pergidau_code pergidau_csv_record(
     size_t text_length,
     struct pergidau_span *fields,
     size_t fields_length,
-    struct pergidau_record *out)
+    struct pergidau_csv_record_sizes *out)
 {
     const uint8_t no_bytes = {0};
     uint8_t no_text = {0};
@@ -741,7 +741,7 @@ enum pergidau_code pergidau_csv_record_partial(
     size_t text_length,
     struct pergidau_span *fields,
     size_t fields_length,
-    struct pergidau_record *out)
+    struct pergidau_csv_record_sizes *out)
 {
     const uint8_t no_bytes = {0};
     uint8_t no_text = {0};
@@ -787,7 +787,7 @@ enum pergidau_code pergidau_csv_record_extent(
     const uint8_t *bytes,
     size_t bytes_length,
     const struct pergidau_csv_dialect *dialect,
-    struct pergidau_record *out)
+    struct pergidau_csv_record_sizes *out)
 {
     const uint8_t no_bytes = {0};
     if (state == NULL) {
@@ -960,7 +960,7 @@ enum pergidau_code pergidau_http_head(
     size_t bytes_length,
     struct pergidau_field *fields,
     size_t fields_length,
-    struct pergidau_head *out)
+    struct pergidau_http_request *out)
 {
     const uint8_t no_bytes = {0};
     struct pergidau_field no_fields = {0};
@@ -993,7 +993,7 @@ enum pergidau_code pergidau_http_head_partial(
     size_t bytes_length,
     struct pergidau_field *fields,
     size_t fields_length,
-    struct pergidau_head *out)
+    struct pergidau_http_request *out)
 {
     const uint8_t no_bytes = {0};
     struct pergidau_field no_fields = {0};
@@ -1225,7 +1225,7 @@ enum pergidau_code pergidau_http_request_framing(
     size_t bytes_length,
     const struct pergidau_field *fields,
     size_t fields_length,
-    const struct pergidau_head *head,
+    const struct pergidau_http_request *head,
     struct pergidau_http_framing *out)
 {
     const uint8_t no_bytes = {0};
@@ -1264,7 +1264,7 @@ enum pergidau_code pergidau_http_response_framing(
     size_t bytes_length,
     const struct pergidau_field *fields,
     size_t fields_length,
-    const struct pergidau_response_head *head,
+    const struct pergidau_http_response *head,
     struct pergidau_http_framing *out)
 {
     const uint8_t no_method = {0};
@@ -1311,7 +1311,7 @@ enum pergidau_code pergidau_http_response_head(
     size_t bytes_length,
     struct pergidau_field *fields,
     size_t fields_length,
-    struct pergidau_response_head *out)
+    struct pergidau_http_response *out)
 {
     const uint8_t no_bytes = {0};
     struct pergidau_field no_fields = {0};
@@ -1344,7 +1344,7 @@ enum pergidau_code pergidau_http_response_head_partial(
     size_t bytes_length,
     struct pergidau_field *fields,
     size_t fields_length,
-    struct pergidau_response_head *out)
+    struct pergidau_http_response *out)
 {
     const uint8_t no_bytes = {0};
     struct pergidau_field no_fields = {0};
@@ -1952,13 +1952,13 @@ enum pergidau_code pergidau_pair_document(
     size_t bytes_length,
     uint8_t *text,
     size_t text_length,
-    struct pergidau_entry *entries,
+    struct pergidau_pair_entry *entries,
     size_t entries_length,
-    struct pergidau_document *out)
+    struct pergidau_pair_sizes *out)
 {
     const uint8_t no_bytes = {0};
     uint8_t no_text = {0};
-    struct pergidau_entry no_entries = {0};
+    struct pergidau_pair_entry no_entries = {0};
     if (bytes_length > PTRDIFF_MAX / sizeof(uint8_t)) {
         return PERGIDAU_TOO_LONG;
     }
@@ -1971,7 +1971,7 @@ enum pergidau_code pergidau_pair_document(
     if (text == NULL && text_length > 0) {
         return PERGIDAU_NULL;
     }
-    if (entries_length > PTRDIFF_MAX / sizeof(struct pergidau_entry)) {
+    if (entries_length > PTRDIFF_MAX / sizeof(struct pergidau_pair_entry)) {
         return PERGIDAU_TOO_LONG;
     }
     if (entries == NULL && entries_length > 0) {
@@ -1997,7 +1997,7 @@ enum pergidau_code pergidau_resp_reply(
     size_t bytes_length,
     uint32_t protocol,
     size_t max_depth,
-    struct pergidau_reply *out)
+    struct pergidau_resp_value *out)
 {
     const uint8_t no_bytes = {0};
     if (bytes_length > PTRDIFF_MAX / sizeof(uint8_t)) {
@@ -2020,7 +2020,7 @@ enum pergidau_code pergidau_resp_reply_partial(
     size_t bytes_length,
     uint32_t protocol,
     size_t max_depth,
-    struct pergidau_reply *out)
+    struct pergidau_resp_value *out)
 {
     const uint8_t no_bytes = {0};
     if (bytes_length > PTRDIFF_MAX / sizeof(uint8_t)) {

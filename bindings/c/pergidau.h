@@ -649,7 +649,7 @@ struct pergidau_number {
 };
 
 /* The sizes of a record, or the offset of an error. */
-struct pergidau_record {
+struct pergidau_csv_record_sizes {
     /* How many fields there are. */
     size_t fields;
     /* How many bytes the fields have together, as they are written. */
@@ -783,7 +783,7 @@ struct pergidau_field {
 };
 
 /* The places of the parts of a head. */
-struct pergidau_head {
+struct pergidau_http_request {
     /* The method. */
     struct pergidau_span method;
     /* The request target. */
@@ -882,7 +882,7 @@ struct pergidau_http_framing {
 };
 
 /* The numbers and the places of the parts of the head of a response. */
-struct pergidau_response_head {
+struct pergidau_http_response {
     /* The span of the reason phrase. If it is empty, the span is at the end of its line. */
     struct pergidau_span reason;
     /* How many fields there are. */
@@ -1053,7 +1053,7 @@ struct pergidau_pair {
 };
 
 /* An entry of a document: a pair, or the head of a section. */
-struct pergidau_entry {
+struct pergidau_pair_entry {
     /* The key of a pair. It is empty for the head of a section, and only there. */
     struct pergidau_span key;
     /* The value of a pair, or the name of a section. It may have no bytes. */
@@ -1061,7 +1061,7 @@ struct pergidau_entry {
 };
 
 /* The sizes of a document, or the offset of an error. */
-struct pergidau_document {
+struct pergidau_pair_sizes {
     /* How many entries there are. */
     size_t entries;
     /* How many bytes the keys, the values and the names have together. */
@@ -1071,7 +1071,7 @@ struct pergidau_document {
 };
 
 /* A reply. */
-struct pergidau_reply {
+struct pergidau_resp_value {
     /*
      * The kind of the reply: one of the constants from PERGIDAU_RESP_SIMPLE to
      * PERGIDAU_RESP_ATTRIBUTES.
@@ -1339,7 +1339,7 @@ enum pergidau_code pergidau_csv_record(
     size_t text_length,
     struct pergidau_span *fields,
     size_t fields_length,
-    struct pergidau_record *out);
+    struct pergidau_csv_record_sizes *out);
 
 /*
  * Parses the same record from partial input. A record or an error that it returns is also that
@@ -1377,7 +1377,7 @@ enum pergidau_code pergidau_csv_record_partial(
     size_t text_length,
     struct pergidau_span *fields,
     size_t fields_length,
-    struct pergidau_record *out);
+    struct pergidau_csv_record_sizes *out);
 
 /*
  * Finds the end of a record of comma-separated values (RFC 4180), in any dialect, in input
@@ -1423,7 +1423,7 @@ enum pergidau_code pergidau_csv_record_extent(
     const uint8_t *bytes,
     size_t bytes_length,
     const struct pergidau_csv_dialect *dialect,
-    struct pergidau_record *out);
+    struct pergidau_csv_record_sizes *out);
 
 /*
  * Writes a record of comma-separated values (RFC 4180) of these fields, in any dialect.
@@ -1627,7 +1627,7 @@ enum pergidau_code pergidau_http_head(
     size_t bytes_length,
     struct pergidau_field *fields,
     size_t fields_length,
-    struct pergidau_head *out);
+    struct pergidau_http_request *out);
 
 /*
  * Parses the same head from partial input. It succeeds as soon as the empty line is there.
@@ -1659,7 +1659,7 @@ enum pergidau_code pergidau_http_head_partial(
     size_t bytes_length,
     struct pergidau_field *fields,
     size_t fields_length,
-    struct pergidau_head *out);
+    struct pergidau_http_request *out);
 
 /*
  * Determines the length of the body of the request whose head is at the start of bytes (RFC
@@ -1955,7 +1955,7 @@ enum pergidau_code pergidau_http_request_framing(
     size_t bytes_length,
     const struct pergidau_field *fields,
     size_t fields_length,
-    const struct pergidau_head *head,
+    const struct pergidau_http_request *head,
     struct pergidau_http_framing *out);
 
 /*
@@ -1992,7 +1992,7 @@ enum pergidau_code pergidau_http_response_framing(
     size_t bytes_length,
     const struct pergidau_field *fields,
     size_t fields_length,
-    const struct pergidau_response_head *head,
+    const struct pergidau_http_response *head,
     struct pergidau_http_framing *out);
 
 /*
@@ -2030,7 +2030,7 @@ enum pergidau_code pergidau_http_response_head(
     size_t bytes_length,
     struct pergidau_field *fields,
     size_t fields_length,
-    struct pergidau_response_head *out);
+    struct pergidau_http_response *out);
 
 /*
  * Parses the same head from partial input. It succeeds as soon as the empty line is there.
@@ -2062,7 +2062,7 @@ enum pergidau_code pergidau_http_response_head_partial(
     size_t bytes_length,
     struct pergidau_field *fields,
     size_t fields_length,
-    struct pergidau_response_head *out);
+    struct pergidau_http_response *out);
 
 /*
  * Parses field lines (RFC 9112, section 5) up to the empty line after them, at the start of
@@ -2813,9 +2813,9 @@ enum pergidau_code pergidau_pair_document(
     size_t bytes_length,
     uint8_t *text,
     size_t text_length,
-    struct pergidau_entry *entries,
+    struct pergidau_pair_entry *entries,
     size_t entries_length,
-    struct pergidau_document *out);
+    struct pergidau_pair_sizes *out);
 
 /*
  * Parses the Redis reply at the start of bytes, whose aggregates are nested at most max_depth
@@ -2866,7 +2866,7 @@ enum pergidau_code pergidau_resp_reply(
     size_t bytes_length,
     uint32_t protocol,
     size_t max_depth,
-    struct pergidau_reply *out);
+    struct pergidau_resp_value *out);
 
 /*
  * Parses the same reply from partial input. Its result is also that of every continuation.
@@ -2897,7 +2897,7 @@ enum pergidau_code pergidau_resp_reply_partial(
     size_t bytes_length,
     uint32_t protocol,
     size_t max_depth,
-    struct pergidau_reply *out);
+    struct pergidau_resp_value *out);
 
 /*
  * Finds the end of a Redis reply in input that arrives in chunks. protocol is as for

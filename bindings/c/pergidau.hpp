@@ -187,13 +187,13 @@ inline result<pergidau_number> calc_value(input text) noexcept
 }
 
 /* Parses a record of comma-separated values (RFC 4180), in any dialect, at the start of bytes. */
-inline result<pergidau_record> csv_record(
+inline result<pergidau_csv_record_sizes> csv_record(
     input bytes,
     const pergidau_csv_dialect &dialect,
     output text,
     view<pergidau_span> fields) noexcept
 {
-    result<pergidau_record> out{};
+    result<pergidau_csv_record_sizes> out{};
     out.code = pergidau_csv_record(
         bytes.data(), bytes.size(), &dialect, text.data(), text.size(), fields.data(),
         fields.size(), &out.value);
@@ -201,13 +201,13 @@ inline result<pergidau_record> csv_record(
 }
 
 /* Parses the same record from partial input. */
-inline result<pergidau_record> csv_record_partial(
+inline result<pergidau_csv_record_sizes> csv_record_partial(
     input bytes,
     const pergidau_csv_dialect &dialect,
     output text,
     view<pergidau_span> fields) noexcept
 {
-    result<pergidau_record> out{};
+    result<pergidau_csv_record_sizes> out{};
     out.code = pergidau_csv_record_partial(
         bytes.data(), bytes.size(), &dialect, text.data(), text.size(), fields.data(),
         fields.size(), &out.value);
@@ -218,12 +218,12 @@ inline result<pergidau_record> csv_record_partial(
  * Finds the end of a record of comma-separated values (RFC 4180), in any dialect, in input that
  * arrives in chunks.
  */
-inline result<pergidau_record> csv_record_extent(
+inline result<pergidau_csv_record_sizes> csv_record_extent(
     pergidau_csv_record_state &state,
     input bytes,
     const pergidau_csv_dialect &dialect) noexcept
 {
-    result<pergidau_record> out{};
+    result<pergidau_csv_record_sizes> out{};
     out.code = pergidau_csv_record_extent(
         &state, bytes.data(), bytes.size(), &dialect, &out.value);
     return out;
@@ -291,18 +291,20 @@ inline result<pergidau_dns_header> dns_message_header(input message) noexcept
  * Parses the head of an HTTP/1.1 request (RFC 9112) at the start of bytes: a request line, field
  * lines, and an empty line.
  */
-inline result<pergidau_head> http_head(input bytes, view<pergidau_field> fields) noexcept
+inline result<pergidau_http_request> http_head(input bytes, view<pergidau_field> fields) noexcept
 {
-    result<pergidau_head> out{};
+    result<pergidau_http_request> out{};
     out.code = pergidau_http_head(
         bytes.data(), bytes.size(), fields.data(), fields.size(), &out.value);
     return out;
 }
 
 /* Parses the same head from partial input. */
-inline result<pergidau_head> http_head_partial(input bytes, view<pergidau_field> fields) noexcept
+inline result<pergidau_http_request> http_head_partial(
+    input bytes,
+    view<pergidau_field> fields) noexcept
 {
-    result<pergidau_head> out{};
+    result<pergidau_http_request> out{};
     out.code = pergidau_http_head_partial(
         bytes.data(), bytes.size(), fields.data(), fields.size(), &out.value);
     return out;
@@ -404,7 +406,7 @@ inline result<std::size_t> http_field(
 inline result<pergidau_http_framing> http_request_framing(
     input bytes,
     view<const pergidau_field> fields,
-    const pergidau_head &head) noexcept
+    const pergidau_http_request &head) noexcept
 {
     result<pergidau_http_framing> out{};
     out.code = pergidau_http_request_framing(
@@ -421,7 +423,7 @@ inline result<pergidau_http_framing> http_response_framing(
     input method,
     input bytes,
     view<const pergidau_field> fields,
-    const pergidau_response_head &head) noexcept
+    const pergidau_http_response &head) noexcept
 {
     result<pergidau_http_framing> out{};
     out.code = pergidau_http_response_framing(
@@ -434,22 +436,22 @@ inline result<pergidau_http_framing> http_response_framing(
  * Parses the head of an HTTP/1.1 response (RFC 9112) at the start of bytes: a status line, field
  * lines, and an empty line.
  */
-inline result<pergidau_response_head> http_response_head(
+inline result<pergidau_http_response> http_response_head(
     input bytes,
     view<pergidau_field> fields) noexcept
 {
-    result<pergidau_response_head> out{};
+    result<pergidau_http_response> out{};
     out.code = pergidau_http_response_head(
         bytes.data(), bytes.size(), fields.data(), fields.size(), &out.value);
     return out;
 }
 
 /* Parses the same head from partial input. */
-inline result<pergidau_response_head> http_response_head_partial(
+inline result<pergidau_http_response> http_response_head_partial(
     input bytes,
     view<pergidau_field> fields) noexcept
 {
-    result<pergidau_response_head> out{};
+    result<pergidau_http_response> out{};
     out.code = pergidau_http_response_head_partial(
         bytes.data(), bytes.size(), fields.data(), fields.size(), &out.value);
     return out;
@@ -701,12 +703,12 @@ inline result<pergidau_pair> pair_line(input bytes) noexcept
  * Parses a document of sections, each a name in brackets followed by pairs, by a fixed grammar
  * in which several sections and pairs may share a line.
  */
-inline result<pergidau_document> pair_document(
+inline result<pergidau_pair_sizes> pair_document(
     input bytes,
     output text,
-    view<pergidau_entry> entries) noexcept
+    view<pergidau_pair_entry> entries) noexcept
 {
-    result<pergidau_document> out{};
+    result<pergidau_pair_sizes> out{};
     out.code = pergidau_pair_document(
         bytes.data(), bytes.size(), text.data(), text.size(), entries.data(), entries.size(),
         &out.value);
@@ -717,23 +719,23 @@ inline result<pergidau_document> pair_document(
  * Parses the Redis reply at the start of bytes, whose aggregates are nested at most max_depth
  * deep.
  */
-inline result<pergidau_reply> resp_reply(
+inline result<pergidau_resp_value> resp_reply(
     input bytes,
     std::uint32_t protocol,
     std::size_t max_depth) noexcept
 {
-    result<pergidau_reply> out{};
+    result<pergidau_resp_value> out{};
     out.code = pergidau_resp_reply(bytes.data(), bytes.size(), protocol, max_depth, &out.value);
     return out;
 }
 
 /* Parses the same reply from partial input. */
-inline result<pergidau_reply> resp_reply_partial(
+inline result<pergidau_resp_value> resp_reply_partial(
     input bytes,
     std::uint32_t protocol,
     std::size_t max_depth) noexcept
 {
-    result<pergidau_reply> out{};
+    result<pergidau_resp_value> out{};
     out.code = pergidau_resp_reply_partial(
         bytes.data(), bytes.size(), protocol, max_depth, &out.value);
     return out;

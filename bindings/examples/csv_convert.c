@@ -18,7 +18,7 @@ int main(int count, char **words)
     static struct pergidau_bytes fields[MOST_FIELDS];
     const struct pergidau_csv_dialect standard = {',', '"', PERGIDAU_CSV_CRLF};
     struct pergidau_csv_dialect given = {',', '"', PERGIDAU_CSV_EITHER};
-    struct pergidau_record record;
+    struct pergidau_csv_record_sizes record;
     size_t length = fread(input, 1, sizeof input, stdin), written;
     given.delimiter = count > 1 ? (uint8_t)words[1][0] : ',';
     for (size_t at = 0; at < length; at += record.length) {

@@ -111,7 +111,7 @@ static bool read_chunked(void)
 static bool serve(size_t length)
 {
     struct pergidau_field fields[MOST_FIELDS];
-    struct pergidau_head head;
+    struct pergidau_http_request head;
     struct pergidau_http_framing found;
     if (pergidau_http_head(input, length, fields, MOST_FIELDS, &head) != PERGIDAU_DONE) {
         return reject("431 Request Header Fields Too Large", "");

@@ -21,7 +21,7 @@ int main(void)
 {
     const char *request = "GET /hello.txt HTTP/1.1\r\nHost: www.example.com\r\nAccept: *\r\n\r\n";
     struct pergidau_field fields[16];
-    struct pergidau_head head;
+    struct pergidau_http_request head;
     formula("2 + 3 * 4");
     formula("1 / 0");
     if (pergidau_http_head((const uint8_t *)request, strlen(request), fields, 16, &head)) {

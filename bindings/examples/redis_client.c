@@ -39,9 +39,9 @@ static size_t split(const char *line, struct pergidau_bytes *words)
 }
 
 /* Prints a reply, with the elements of an array on a line each. */
-static void show(const uint8_t *bytes, const struct pergidau_reply *reply)
+static void show(const uint8_t *bytes, const struct pergidau_resp_value *reply)
 {
-    struct pergidau_reply element;
+    struct pergidau_resp_value element;
     size_t offset = reply->span.offset, end = offset + reply->span.length;
     switch (reply->kind) {
     case PERGIDAU_RESP_INTEGER:
@@ -64,7 +64,7 @@ static void show(const uint8_t *bytes, const struct pergidau_reply *reply)
 static enum pergidau_code receive(int server)
 {
     struct pergidau_resp_reply_state state = {0};
-    struct pergidau_reply reply;
+    struct pergidau_resp_value reply;
     size_t length = 0, end;
     enum pergidau_code code = PERGIDAU_INCOMPLETE;
     while (code == PERGIDAU_INCOMPLETE && length < sizeof got) {

@@ -99,7 +99,7 @@ static void codings_by_hand(const uint8_t *bytes, const struct pergidau_field *f
 }
 
 /* The rules of RFC 9112, sections 3.2, 6.1 and 6.3, for a request with these fields. */
-static void body_by_hand(const uint8_t *bytes, const struct pergidau_head *head,
+static void body_by_hand(const uint8_t *bytes, const struct pergidau_http_request *head,
                          const struct pergidau_field *fields, struct pergidau_http_body *want)
 {
     size_t hosts = 0, lengths = 0, codings = 0;
@@ -152,7 +152,7 @@ static bool has_option(const uint8_t *bytes, const struct pergidau_field *fields
 
 /* The framing of a request whose head was read: as without it, with what is rejected, and whether the
  * connection persists (RFC 9112, section 9.3). */
-static void read_framing(const uint8_t *bytes, size_t length, const struct pergidau_head *head,
+static void read_framing(const uint8_t *bytes, size_t length, const struct pergidau_http_request *head,
                          const struct pergidau_field *fields, const struct pergidau_http_body *want)
 {
     struct pergidau_http_framing out;
@@ -183,7 +183,7 @@ static void read_body(const uint8_t *bytes, size_t length)
 {
     struct pergidau_http_body out, want = {PERGIDAU_HTTP_BODY_NONE, PERGIDAU_HTTP_ERROR_HEAD, 0};
     struct pergidau_field fields[MOST_FIELDS];
-    struct pergidau_head head;
+    struct pergidau_http_request head;
     enum pergidau_code found = pergidau_http_head(bytes, length, fields, MOST_FIELDS, &head);
     enum pergidau_code code = pergidau_http_request_body(bytes, length, &out);
     if (found == PERGIDAU_BUFFER_TOO_SMALL) {

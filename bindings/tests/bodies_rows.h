@@ -160,7 +160,7 @@ static void test_fields(void)
     size_t length = strlen(text), index = 7;
     uint8_t *bytes = copied(text, length);
     struct pergidau_field fields[3];
-    struct pergidau_head head;
+    struct pergidau_http_request head;
     same("a head", text, pergidau_http_head(bytes, length, fields, 3, &head), PERGIDAU_DONE);
     for (size_t i = 0; i < sizeof rows / sizeof *rows; i++) {
         const uint8_t *name = (const uint8_t *)rows[i].name;

@@ -220,7 +220,7 @@ static enum pergidau_code call(enum call which, size_t max_depth)
 {
     struct pergidau_number number;
     struct pergidau_pair pair;
-    struct pergidau_document document;
+    struct pergidau_pair_sizes document;
     struct pergidau_ini_state reading = {0};
     struct pergidau_ini_entry entry;
     struct pergidau_json_item item;
@@ -230,20 +230,20 @@ static enum pergidau_code call(enum call which, size_t max_depth)
     struct pergidau_decimal decimal;
     struct pergidau_json_diagnostic diagnostic;
     struct pergidau_json_value_state value = {0};
-    struct pergidau_head head;
+    struct pergidau_http_request head;
     struct pergidau_http_head_state passed = {0};
     struct pergidau_http_body body;
     struct pergidau_field field = {{0, length}, {0, 0}};
     /* A head whose target is the first byte, and whose field has a name of 17 bytes. */
-    const struct pergidau_head framed = {.target = {0, 1}, .fields = 1, .major = 2};
-    const struct pergidau_response_head answered = {.fields = 1, .status = 200, .major = 2};
+    const struct pergidau_http_request framed = {.target = {0, 1}, .fields = 1, .major = 2};
+    const struct pergidau_http_response answered = {.fields = 1, .status = 200, .major = 2};
     const struct pergidau_field coding = {{1, 17}, {18, length - 18}};
     struct pergidau_http_framing framing;
-    struct pergidau_response_head response;
-    struct pergidau_record record;
+    struct pergidau_http_response response;
+    struct pergidau_csv_record_sizes record;
     struct pergidau_csv_record_state fields = {0};
     const struct pergidau_csv_dialect lines = {',', '"', PERGIDAU_CSV_LF};
-    struct pergidau_reply reply;
+    struct pergidau_resp_value reply;
     struct pergidau_resp_reply_state state = {0};
     struct pergidau_resp_nodes_size size;
     /* Without limits, so that all bytes are consumed. */

@@ -20,7 +20,7 @@ static enum pergidau_code request_framing(const char *row, const uint8_t *bytes,
                                           struct pergidau_http_framing *out)
 {
     struct pergidau_field fields[8];
-    struct pergidau_head head;
+    struct pergidau_http_request head;
     memset(fields, 0, sizeof fields);
     same("a head", row, pergidau_http_head(bytes, length, fields, 8, &head), PERGIDAU_DONE);
     for (size_t at = head.fields; at < 8; at++) {
@@ -34,7 +34,7 @@ static enum pergidau_code response_framing(const char *row, const uint8_t *metho
                                            struct pergidau_http_framing *out)
 {
     struct pergidau_field fields[8];
-    struct pergidau_response_head head;
+    struct pergidau_http_response head;
     memset(fields, 0, sizeof fields);
     same("a head", row, pergidau_http_response_head(bytes, length, fields, 8, &head), PERGIDAU_DONE);
     for (size_t at = head.fields; at < 8; at++) {
@@ -138,8 +138,8 @@ static void test_framing_edges(void)
     size_t length = strlen(text), far = SIZE_MAX;
     uint8_t *bytes = copied(text, length);
     struct pergidau_field fields[2] = {{{16, 4}, {22, 1}}, {{far, 4}, {length - 1, far}}};
-    struct pergidau_head head = {.method = {0, 3}, .target = {4, 1}, .fields = far, .major = 1, .minor = 1};
-    struct pergidau_response_head response = {.fields = far, .status = 200, .major = 1, .minor = 1};
+    struct pergidau_http_request head = {.method = {0, 3}, .target = {4, 1}, .fields = far, .major = 1, .minor = 1};
+    struct pergidau_http_response response = {.fields = far, .status = 200, .major = 1, .minor = 1};
     struct pergidau_http_framing out;
     same_body("outside", pergidau_http_request_framing(bytes, length, fields, 2, &head, &out), &out.body,
               PERGIDAU_HTTP_BODY_NONE, PERGIDAU_HTTP_ERROR_NONE, 0);

@@ -125,10 +125,10 @@ static void *buffer(size_t size)
 
 static void read_document(const uint8_t *bytes, size_t length)
 {
-    struct pergidau_document out;
+    struct pergidau_pair_sizes out;
     size_t most = below(24), count = below(4);
-    size_t size = count * sizeof(struct pergidau_entry);
-    struct pergidau_entry *entries = buffer(size);
+    size_t size = count * sizeof(struct pergidau_pair_entry);
+    struct pergidau_pair_entry *entries = buffer(size);
     uint8_t *text = (uint8_t *)memset((uint8_t *)entries - most, 0xab, most);
     enum pergidau_code code =
         pergidau_pair_document(bytes, length, text, most, entries, count, &out);
@@ -166,7 +166,7 @@ static void read_document(const uint8_t *bytes, size_t length)
 
 static void read_head(const uint8_t *bytes, size_t length)
 {
-    struct pergidau_head out, cut;
+    struct pergidau_http_request out, cut;
     size_t count = below(6);
     size_t size = count * sizeof(struct pergidau_field);
     /* The last entry ends where the room ends. */
@@ -233,7 +233,7 @@ static bool may_go_on(const uint8_t *bytes, size_t length,
 {
     const char quote = (char)dialect->quote;
     const char ends[][4] = {"\n", "\r\n", {quote, '\n'}, {quote, '\r', '\n'}};
-    struct pergidau_record out;
+    struct pergidau_csv_record_sizes out;
     bool goes_on = false;
     uint8_t *more = malloc(length + 3);
     HOLDS(more != NULL);
@@ -251,7 +251,7 @@ static bool may_go_on(const uint8_t *bytes, size_t length,
 
 static void read_record(const uint8_t *bytes, size_t length)
 {
-    struct pergidau_record out, cut;
+    struct pergidau_csv_record_sizes out, cut;
     struct pergidau_csv_dialect chosen = csv_dialect();
     const struct pergidau_csv_dialect *dialect = &chosen;
     size_t most = below(24), count = below(4);
@@ -315,7 +315,7 @@ static bool is_aggregate(enum pergidau_resp_kind kind)
 
 static void read_reply(const uint8_t *bytes, size_t length)
 {
-    struct pergidau_reply out, part;
+    struct pergidau_resp_value out, part;
     size_t max_depth = below(4);
     uint32_t protocol = 2 + (uint32_t)below(2);
     enum pergidau_code code = pergidau_resp_reply(bytes, length, protocol, max_depth, &out);
@@ -362,7 +362,7 @@ static void read_reply(const uint8_t *bytes, size_t length)
 static void read_extent(const uint8_t *bytes, size_t length)
 {
     struct pergidau_resp_reply_state state = {0}, once = {0};
-    struct pergidau_reply reply;
+    struct pergidau_resp_value reply;
     size_t end = 0, whole = 0, have = 0;
     uint32_t protocol = 2 + (uint32_t)below(2);
     enum pergidau_code code = PERGIDAU_INCOMPLETE;

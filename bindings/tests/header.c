@@ -3,10 +3,10 @@
 #include "pergidau.h"
 
 #ifdef __cplusplus
-static pergidau_head head;
+static pergidau_http_request head;
 static pergidau_json_item item;
 #else
-static struct pergidau_head head;
+static struct pergidau_http_request head;
 static struct pergidau_json_item item;
 #endif
 

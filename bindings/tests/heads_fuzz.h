@@ -121,7 +121,7 @@ static void hold_fields(const uint8_t *bytes, size_t length, const struct pergid
 
 static void read_response(const uint8_t *bytes, size_t length)
 {
-    struct pergidau_response_head out, cut;
+    struct pergidau_http_response out, cut;
     struct by_hand want = response_by_hand(LINE, bytes, length);
     size_t count = below(6), size = count * sizeof(struct pergidau_field);
     /* The last entry ends where the room ends. */
@@ -196,8 +196,8 @@ static void read_head_extent(const uint8_t *bytes, size_t length)
 {
     bool is_response = below(2) == 0;
     struct pergidau_http_head_state state = {0};
-    struct pergidau_head head;
-    struct pergidau_response_head response;
+    struct pergidau_http_request head;
+    struct pergidau_http_response response;
     struct pergidau_field fields[MOST_FIELDS];
     size_t out = 0, have = 0;
     enum pergidau_code code = PERGIDAU_INCOMPLETE;
@@ -223,7 +223,7 @@ static void read_head_extent(const uint8_t *bytes, size_t length)
 static void read_record_extent(const uint8_t *bytes, size_t length)
 {
     struct pergidau_csv_record_state state = {0};
-    struct pergidau_record out, record;
+    struct pergidau_csv_record_sizes out, record;
     struct pergidau_csv_dialect chosen = csv_dialect();
     const struct pergidau_csv_dialect *dialect = &chosen;
     size_t have = 0;

@@ -59,7 +59,7 @@ static const struct no_head no_responses[] = {
 
 static void test_response(size_t i)
 {
-    struct pergidau_response_head out;
+    struct pergidau_http_response out;
     const char *row = responses[i].text;
     size_t length = strlen(row), count = responses[i].count;
     uint8_t *text = copied(row, length);
@@ -108,7 +108,7 @@ static void test_response(size_t i)
 
 static void test_responses(void)
 {
-    struct pergidau_response_head out;
+    struct pergidau_http_response out;
     struct pergidau_field fields[4];
     for (size_t i = 0; i < sizeof responses / sizeof *responses; i++) {
         test_response(i);
@@ -247,7 +247,7 @@ static void test_head_extents(void)
 /* Makes successive calls, each with `step` more bytes, and returns the last result. */
 static enum pergidau_code record_in_turn(const char *row, size_t length,
                                          const struct pergidau_csv_dialect *dialect, size_t step,
-                                         struct pergidau_record *out)
+                                         struct pergidau_csv_record_sizes *out)
 {
     struct pergidau_csv_record_state state = {0};
     enum pergidau_code code = PERGIDAU_INCOMPLETE;
@@ -264,7 +264,7 @@ static enum pergidau_code record_in_turn(const char *row, size_t length,
 
 static void test_record_extents(void)
 {
-    struct pergidau_record out;
+    struct pergidau_csv_record_sizes out;
     for (size_t i = 0; i < sizeof records / sizeof *records; i++) {
         const char *row = records[i].text;
         const struct pergidau_csv_dialect *dialect = &csv_dialects[records[i].dialect];

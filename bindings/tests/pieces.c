@@ -36,7 +36,7 @@ static char *made(size_t *length)
     return text;
 }
 
-static size_t by_extent(const uint8_t *bytes, size_t length, struct pergidau_reply *out)
+static size_t by_extent(const uint8_t *bytes, size_t length, struct pergidau_resp_value *out)
 {
     struct pergidau_resp_reply_state state = {0};
     size_t end = 0, have = 0;
@@ -51,7 +51,7 @@ static size_t by_extent(const uint8_t *bytes, size_t length, struct pergidau_rep
     return code == PERGIDAU_DONE ? have : 0;
 }
 
-static size_t by_pieces(const uint8_t *bytes, size_t length, struct pergidau_reply *out)
+static size_t by_pieces(const uint8_t *bytes, size_t length, struct pergidau_resp_value *out)
 {
     size_t have = 0;
     enum pergidau_code code = PERGIDAU_INCOMPLETE;
@@ -66,11 +66,11 @@ int main(int count, char **words)
 {
     size_t length;
     const uint8_t *bytes = (const uint8_t *)made(&length);
-    size_t (*const ways[])(const uint8_t *, size_t, struct pergidau_reply *) = {by_extent, by_pieces};
+    size_t (*const ways[])(const uint8_t *, size_t, struct pergidau_resp_value *) = {by_extent, by_pieces};
     const char *const names[] = {"resp_extent, then resp_reply", "resp_reply_partial"};
     int wrong = 0;
     for (int i = 0; i < (count > 1 && !strcmp(words[1], "all") ? 2 : 1); i++) {
-        struct pergidau_reply reply = {0};
+        struct pergidau_resp_value reply = {0};
         double begun = now();
         size_t have = ways[i](bytes, length, &reply);
         printf("%s: %zu bytes, %.3f s\n", names[i], length, now() - begun);

@@ -131,7 +131,7 @@ static bool has_word(const uint8_t *bytes, struct pergidau_span it, const char *
     return it.length == strlen(word) && !memcmp(bytes + it.offset, word, it.length);
 }
 
-static bool is_target(const uint8_t *bytes, const struct pergidau_head *head)
+static bool is_target(const uint8_t *bytes, const struct pergidau_http_request *head)
 {
     size_t at = head->target.offset, end = at + head->target.length;
     if (has_word(bytes, head->method, "CONNECT")) {

@@ -6,7 +6,7 @@ static size_t check_resp_node(const uint8_t *bytes, size_t at, size_t length, ui
                               size_t max_depth, const struct pergidau_resp_node *nodes, size_t index)
 {
     const struct pergidau_resp_node *node = &nodes[index];
-    struct pergidau_reply reply;
+    struct pergidau_resp_value reply;
     size_t inside = index + 1;
     HOLDS(pergidau_resp_reply_partial(bytes + at, length - at, protocol, max_depth, &reply)
           == PERGIDAU_DONE);
@@ -30,7 +30,7 @@ static void read_resp_nodes(const uint8_t *bytes, size_t length)
 {
     size_t max_depth = below(4);
     uint32_t protocol = 2 + (uint32_t)below(2);
-    struct pergidau_reply reply;
+    struct pergidau_resp_value reply;
     struct pergidau_resp_nodes_size out, again;
     enum pergidau_code read = pergidau_resp_reply_partial(bytes, length, protocol, max_depth, &reply);
     enum pergidau_code code = pergidau_resp_nodes(bytes, length, protocol, max_depth, NULL, 0, &out);

@@ -310,12 +310,12 @@ static void test_document(size_t i)
     const char *row = documents[i].bytes;
     size_t length = strlen(row), count = documents[i].count, bytes = 0, sum = 0;
     uint8_t *input = copied(row, length);
-    struct pergidau_document out;
+    struct pergidau_pair_sizes out;
     for (size_t k = 0; k < count; k++) {
         bytes += strlen(documents[i].entries[k][0]) + strlen(documents[i].entries[k][1]);
     }
     uint8_t *text = malloc(bytes ? bytes : 1);
-    struct pergidau_entry *entries = malloc((count ? count : 1) * sizeof *entries);
+    struct pergidau_pair_entry *entries = malloc((count ? count : 1) * sizeof *entries);
     if (text == NULL || entries == NULL) {
         exit(2);
     }
@@ -355,8 +355,8 @@ static void test_documents(void)
     const uint8_t *bytes = (const uint8_t *)"[a]";
     size_t far = (size_t)PTRDIFF_MAX + 1;
     uint8_t text[1];
-    struct pergidau_entry entries[1];
-    struct pergidau_document out;
+    struct pergidau_pair_entry entries[1];
+    struct pergidau_pair_sizes out;
     for (size_t i = 0; i < sizeof documents / sizeof *documents; i++) {
         test_document(i);
     }
@@ -454,7 +454,7 @@ static size_t joined(char *row, size_t size, const struct no_head *it)
 
 static void test_heads(void)
 {
-    struct pergidau_head out;
+    struct pergidau_http_request out;
     for (size_t i = 0; i < sizeof heads / sizeof *heads; i++) {
         const char *row = heads[i].text;
         size_t length = strlen(row), count = heads[i].count;
@@ -572,7 +572,7 @@ static void test_record(size_t i)
     const struct pergidau_csv_dialect *dialect = &csv_dialects[records[i].dialect];
     size_t length = strlen(row), count = records[i].count, bytes = 0, sum = 0;
     uint8_t *input = copied(row, length);
-    struct pergidau_record out;
+    struct pergidau_csv_record_sizes out;
     for (size_t k = 0; k < count; k++) {
         bytes += strlen(records[i].fields[k]);
     }
@@ -621,7 +621,7 @@ static void test_record(size_t i)
 
 static void test_records(void)
 {
-    struct pergidau_record out;
+    struct pergidau_csv_record_sizes out;
     for (size_t i = 0; i < sizeof records / sizeof *records; i++) {
         test_record(i);
     }
@@ -732,7 +732,7 @@ static const struct {
     {"|1\r\n+a\r\n_\r\n~1\r\n:1\r\n", 3, PERGIDAU_TOO_DEEP, 11, 14},
 };
 
-static void nothing_read(const char *row, const struct pergidau_reply *out, size_t offset)
+static void nothing_read(const char *row, const struct pergidau_resp_value *out, size_t offset)
 {
     same("no kind", row, (long long)out->kind, 0);
     same("no number", row, out->number, 0);
@@ -744,7 +744,7 @@ static void nothing_read(const char *row, const struct pergidau_reply *out, size
 
 static void test_invalid_replies(void)
 {
-    struct pergidau_reply out;
+    struct pergidau_resp_value out;
     for (size_t i = 0; i < sizeof no_replies / sizeof *no_replies; i++) {
         const char *row = no_replies[i].bytes;
         uint32_t protocol = (uint32_t)no_replies[i].protocol;
@@ -765,7 +765,7 @@ static void test_invalid_replies(void)
 
 static void test_replies(void)
 {
-    struct pergidau_reply out;
+    struct pergidau_resp_value out;
     for (size_t i = 0; i < sizeof replies / sizeof *replies; i++) {
         const char *row = replies[i].bytes;
         uint32_t protocol = (uint32_t)replies[i].protocol;
@@ -1110,7 +1110,7 @@ static void test_wrong_records(void)
     size_t far = (size_t)PTRDIFF_MAX + 1;
     uint8_t text[1];
     struct pergidau_span places[1];
-    struct pergidau_record out;
+    struct pergidau_csv_record_sizes out;
     const struct pergidau_csv_dialect *standard = csv_dialects;
     same("null", "record", pergidau_csv_record(NULL, 1, standard, text, 1, places, 1, &out),
          PERGIDAU_NULL);
@@ -1170,7 +1170,7 @@ static void test_wrong_use(void)
     size_t far = (size_t)PTRDIFF_MAX + 1, length = 7;
     struct pergidau_number number = {5, 5};
     struct pergidau_pair pair;
-    struct pergidau_head head;
+    struct pergidau_http_request head;
     struct pergidau_field fields[1];
     same("null", "calc", pergidau_calc_value(NULL, 1, &number), PERGIDAU_NULL);
     same("null", "calc", pergidau_calc_value(bytes, 1, NULL), PERGIDAU_NULL);
@@ -1289,7 +1289,7 @@ static void test_library(void)
     same("kinds", "INI", PERGIDAU_INI_MORE, 3);
     same("errors", "INI", PERGIDAU_INI_ERROR_MISSING_DELIMITER, 6);
     struct pergidau_json_item item;
-    struct pergidau_reply reply;
+    struct pergidau_resp_value reply;
     same("the size of a kind", "JSON", sizeof item.kind, sizeof(uint32_t));
     same("the size of a kind", "RESP", sizeof reply.kind, sizeof(uint32_t));
 }

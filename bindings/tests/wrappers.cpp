@@ -88,7 +88,7 @@ static void csv_and_pairs()
     const pergidau_bytes parts[] = {pergidau::slice("a,"), pergidau::slice(std::string_view())};
     EXPECT(text(buffer, {0, *pergidau::csv_write(parts, dialect, buffer)}) == "\"a,\",\n");
     EXPECT(text("a=b", pergidau::pair_line("a=b")->value) == "b");
-    pergidau_entry entries[2];
+    pergidau_pair_entry entries[2];
     EXPECT(pergidau::pair_document("[s]\na=b", buffer, entries)->entries == 2);
     EXPECT(text(buffer, entries[1].value) == "b");
     pergidau_ini_state ini{};

@@ -21,8 +21,8 @@ static void write_slices(const uint8_t *bytes, size_t length)
     struct pergidau_bytes slices[MOST_PARTS];
     struct pergidau_csv_dialect dialect = csv_dialect();
     struct pergidau_span places[MOST_PARTS];
-    struct pergidau_record record;
-    struct pergidau_reply reply;
+    struct pergidau_csv_record_sizes record;
+    struct pergidau_resp_value reply;
     size_t count = split(bytes, length, slices), size = 0, out = 0, sum = 0;
     bool is_command = below(2);
     enum pergidau_code code = is_command ? pergidau_resp_command(slices, count, NULL, 0, &size)

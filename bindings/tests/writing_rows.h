@@ -92,7 +92,7 @@ static void test_written_records(void)
         /* The record has the same fields. */
         uint8_t text[64];
         struct pergidau_span places[MOST_SLICES];
-        struct pergidau_record out;
+        struct pergidau_csv_record_sizes out;
         same("csv_record", row,
              pergidau_csv_record((const uint8_t *)row, length, dialect, text, sizeof text, places,
                                  MOST_SLICES, &out), PERGIDAU_DONE);
@@ -153,7 +153,7 @@ static void test_commands(void)
             slices[k] = slice_of(commands[i].parts[k]);
         }
         test_written(slices, count, NULL, commands[i].text);
-        struct pergidau_reply out;
+        struct pergidau_resp_value out;
         same("resp_reply", commands[i].text,
              pergidau_resp_reply((const uint8_t *)commands[i].text, strlen(commands[i].text), 2, 1, &out),
              PERGIDAU_DONE);

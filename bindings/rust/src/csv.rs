@@ -153,7 +153,7 @@ type Export = unsafe extern "C" fn(
     usize,
     *mut Span,
     usize,
-    *mut exports::Record,
+    *mut exports::CsvRecordSizes,
 ) -> u32;
 
 /// Returns the sizes of the record that was written.
@@ -163,8 +163,8 @@ fn write(
     dialect: Dialect,
     text: &mut [u8],
     fields: &mut [Span],
-) -> Result<exports::Record, Error> {
-    let mut out = exports::Record::default();
+) -> Result<exports::CsvRecordSizes, Error> {
+    let mut out = exports::CsvRecordSizes::default();
     let given = dialect.given();
     let (room, most) = (text.as_mut_ptr(), text.len());
     let (entries, count) = (fields.as_mut_ptr(), fields.len());
@@ -185,7 +185,7 @@ fn write(
 /// The record of these sizes at the start of `bytes`, in the buffers that it was written into.
 fn shown<'i, 'b>(
     bytes: &'i [u8],
-    out: &exports::Record,
+    out: &exports::CsvRecordSizes,
     text: &'b [u8],
     fields: &'b [Span],
 ) -> Record<'i, 'b> {

@@ -625,7 +625,7 @@ pub struct Number {
 /// The sizes of a record, or the offset of an error.
 #[repr(C)]
 #[derive(Clone, Copy, Debug, Default, PartialEq, Eq)]
-pub struct Record {
+pub struct CsvRecordSizes {
     /// How many fields there are.
     pub fields: usize,
     /// How many bytes the fields have together, as they are written.
@@ -771,7 +771,7 @@ pub struct Field {
 /// The places of the parts of a head.
 #[repr(C)]
 #[derive(Clone, Copy, Debug, Default, PartialEq, Eq)]
-pub struct Head {
+pub struct HttpRequest {
     /// The method.
     pub method: Span,
     /// The request target.
@@ -870,7 +870,7 @@ pub struct HttpFraming {
 /// The numbers and the places of the parts of the head of a response.
 #[repr(C)]
 #[derive(Clone, Copy, Debug, Default, PartialEq, Eq)]
-pub struct ResponseHead {
+pub struct HttpResponse {
     /// The span of the reason phrase. If it is empty, the span is at the end of its line.
     pub reason: Span,
     /// How many fields there are.
@@ -1045,7 +1045,7 @@ pub struct Pair {
 /// An entry of a document: a pair, or the head of a section.
 #[repr(C)]
 #[derive(Clone, Copy, Debug, Default, PartialEq, Eq)]
-pub struct Entry {
+pub struct PairEntry {
     /// The key of a pair. It is empty for the head of a section, and only there.
     pub key: Span,
     /// The value of a pair, or the name of a section. It may have no bytes.
@@ -1055,7 +1055,7 @@ pub struct Entry {
 /// The sizes of a document, or the offset of an error.
 #[repr(C)]
 #[derive(Clone, Copy, Debug, Default, PartialEq, Eq)]
-pub struct Document {
+pub struct PairSizes {
     /// How many entries there are.
     pub entries: usize,
     /// How many bytes the keys, the values and the names have together.
@@ -1067,7 +1067,7 @@ pub struct Document {
 /// A reply.
 #[repr(C)]
 #[derive(Clone, Copy, Debug, Default, PartialEq, Eq)]
-pub struct Reply {
+pub struct RespValue {
     /// The kind of the reply: one of the constants from `RESP_SIMPLE` to `RESP_ATTRIBUTES`.
     pub kind: u32,
     /// The number of an integer; 1 for true; 0 otherwise.
@@ -1324,7 +1324,7 @@ extern "C" {
         text_length: usize,
         fields: *mut Span,
         fields_length: usize,
-        out: *mut Record,
+        out: *mut CsvRecordSizes,
     ) -> u32;
 
     /// Parses the same record from partial input. A record or an error that it returns is also that of
@@ -1360,7 +1360,7 @@ extern "C" {
         text_length: usize,
         fields: *mut Span,
         fields_length: usize,
-        out: *mut Record,
+        out: *mut CsvRecordSizes,
     ) -> u32;
 
     /// Finds the end of a record of comma-separated values (RFC 4180), in any dialect, in input that
@@ -1404,7 +1404,7 @@ extern "C" {
         bytes: *const u8,
         bytes_length: usize,
         dialect: *const CsvDialect,
-        out: *mut Record,
+        out: *mut CsvRecordSizes,
     ) -> u32;
 
     /// Writes a record of comma-separated values (RFC 4180) of these fields, in any dialect.
@@ -1596,7 +1596,7 @@ extern "C" {
         bytes_length: usize,
         fields: *mut Field,
         fields_length: usize,
-        out: *mut Head,
+        out: *mut HttpRequest,
     ) -> u32;
 
     /// Parses the same head from partial input. It succeeds as soon as the empty line is there.
@@ -1627,7 +1627,7 @@ extern "C" {
         bytes_length: usize,
         fields: *mut Field,
         fields_length: usize,
-        out: *mut Head,
+        out: *mut HttpRequest,
     ) -> u32;
 
     /// Determines the length of the body of the request whose head is at the start of `bytes` (RFC
@@ -1905,7 +1905,7 @@ extern "C" {
         bytes_length: usize,
         fields: *const Field,
         fields_length: usize,
-        head: *const Head,
+        head: *const HttpRequest,
         out: *mut HttpFraming,
     ) -> u32;
 
@@ -1940,7 +1940,7 @@ extern "C" {
         bytes_length: usize,
         fields: *const Field,
         fields_length: usize,
-        head: *const ResponseHead,
+        head: *const HttpResponse,
         out: *mut HttpFraming,
     ) -> u32;
 
@@ -1976,7 +1976,7 @@ extern "C" {
         bytes_length: usize,
         fields: *mut Field,
         fields_length: usize,
-        out: *mut ResponseHead,
+        out: *mut HttpResponse,
     ) -> u32;
 
     /// Parses the same head from partial input. It succeeds as soon as the empty line is there.
@@ -2007,7 +2007,7 @@ extern "C" {
         bytes_length: usize,
         fields: *mut Field,
         fields_length: usize,
-        out: *mut ResponseHead,
+        out: *mut HttpResponse,
     ) -> u32;
 
     /// Parses field lines (RFC 9112, section 5) up to the empty line after them, at the start of
@@ -2725,9 +2725,9 @@ extern "C" {
         bytes_length: usize,
         text: *mut u8,
         text_length: usize,
-        entries: *mut Entry,
+        entries: *mut PairEntry,
         entries_length: usize,
-        out: *mut Document,
+        out: *mut PairSizes,
     ) -> u32;
 
     /// Parses the Redis reply at the start of `bytes`, whose aggregates are nested at most `max_depth`
@@ -2776,7 +2776,7 @@ extern "C" {
         bytes_length: usize,
         protocol: u32,
         max_depth: usize,
-        out: *mut Reply,
+        out: *mut RespValue,
     ) -> u32;
 
     /// Parses the same reply from partial input. Its result is also that of every continuation.
@@ -2805,7 +2805,7 @@ extern "C" {
         bytes_length: usize,
         protocol: u32,
         max_depth: usize,
-        out: *mut Reply,
+        out: *mut RespValue,
     ) -> u32;
 
     /// Finds the end of a Redis reply in input that arrives in chunks. `protocol` is as for

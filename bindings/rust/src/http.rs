@@ -54,7 +54,7 @@ fn find<'i>(bytes: &'i [u8], fields: &[Field], name: &str) -> Option<&'i [u8]> {
 #[derive(Clone, Copy, Debug)]
 pub struct Head<'i, 'f> {
     bytes: &'i [u8],
-    places: exports::Head,
+    places: exports::HttpRequest,
     fields: &'f [Field],
 }
 
@@ -126,11 +126,11 @@ impl<'i, 'f> Head<'i, 'f> {
     }
 }
 
-type Export = unsafe extern "C" fn(*const u8, usize, *mut Field, usize, *mut exports::Head) -> u32;
+type Export = unsafe extern "C" fn(*const u8, usize, *mut Field, usize, *mut exports::HttpRequest) -> u32;
 
 /// Returns the parts of the head that was written.
-fn write(export: Export, bytes: &[u8], fields: &mut [Field]) -> Result<exports::Head, Error> {
-    let mut places = exports::Head::default();
+fn write(export: Export, bytes: &[u8], fields: &mut [Field]) -> Result<exports::HttpRequest, Error> {
+    let mut places = exports::HttpRequest::default();
     let (entries, count) = (fields.as_mut_ptr(), fields.len());
     // SAFETY: the pointers are those of live borrows, and the bytes are only read. The call takes up to
     // 4 KiB of stack (measured); where there is less, the thread's guard page ends the program.

@@ -14,7 +14,7 @@
 //! }
 //! # Ok::<(), pergidau::Error>(())
 //! ```
-pub use crate::exports::Entry;
+pub use crate::exports::PairEntry;
 
 use crate::{at, exports, Error, RequiredSize, NOTHING};
 #[cfg(feature = "alloc")]
@@ -203,8 +203,8 @@ fn write(
     bytes: &[u8],
     text: &mut [u8],
     entries: &mut [Entry],
-) -> Result<exports::Document, Error> {
-    let mut out = exports::Document::default();
+) -> Result<exports::PairSizes, Error> {
+    let mut out = exports::PairSizes::default();
     let (room, most) = (text.as_mut_ptr(), text.len());
     let (places, count) = (entries.as_mut_ptr(), entries.len());
     // SAFETY: the pointers are those of live borrows, and the bytes are only read. The call takes up to

@@ -118,7 +118,7 @@ impl<'i> Iterator for Elements<'i> {
 
 impl ExactSizeIterator for Elements<'_> {}
 
-type Export = unsafe extern "C" fn(*const u8, usize, u32, usize, *mut exports::Reply) -> u32;
+type Export = unsafe extern "C" fn(*const u8, usize, u32, usize, *mut exports::RespValue) -> u32;
 
 /// Converts a code other than `DONE` to an error at this offset.
 fn error(code: u32, offset: usize) -> Error {
@@ -165,7 +165,7 @@ fn read(
     protocol: Protocol,
     max_depth: usize,
 ) -> Result<(Reply<'_>, &[u8]), Error> {
-    let mut out = exports::Reply::default();
+    let mut out = exports::RespValue::default();
     // SAFETY: the pointers are those of live borrows, and the bytes are only read. The call takes up to
     // 107 KiB of stack at `MAX_DEPTH` (measured); where there is less, the thread's guard page ends
     // the program.

@@ -14,7 +14,7 @@ use Rattle.readers.specs.Document.{BeginsWith, HasSections, Part, PairBytes, Sec
 use Rattle.readers.specs.Document.{comment, pair, pairs_of, section, sections_of, white}
 use Rattle.readers.specs.Sections.{pair_text}
 use Rattle.exported.specs.Pairs.{EntryText, ShowsEntry, entries_of, text_of}
-use Rattle.exported.specs.declared.pairs.Entry.{Entry}
+use Rattle.exported.specs.declared.pairs.PairEntry.{PairEntry}
 
 -- A key and a value as they are found.
 abbrev pub Found : Type 0
@@ -160,7 +160,7 @@ front_long found i x within is =
 
 -- ---- the offsets of an entry
 
-entry_stands : (found : List Found) (i : ℕ) (x : Found) (place : Entry) → i < length found
+entry_stands : (found : List Found) (i : ℕ) (x : Found) (place : PairEntry) → i < length found
     → x ≡ slice_index_or found i nothing
     → place.key.offset ≡ length (text_of (take i (map pair_text found)))
     → place.key.length ≡ length x.0.now
@@ -188,25 +188,26 @@ entry_stands found i x place within is begins long value_begins value_long =
     )
 
 -- one place more is written
-pub shown_more : (found : List Found) (places : List Entry) (i : ℕ) (x : Found) (place : Entry)
+pub shown_more : (found : List Found) (places : List PairEntry) (i : ℕ) (x : Found)
+    (place : PairEntry)
     → i < length places → i < length found → x ≡ slice_index_or found i nothing
     → place.key.offset ≡ length (text_of (take i (map pair_text found)))
     → place.key.length ≡ length x.0.now
     → place.value.offset ≡ place.key.offset + place.key.length
     → place.value.length ≡ length x.1.now
-    → ((k : ℕ) (p : Entry) (e : EntryText) → k < i
+    → ((k : ℕ) (p : PairEntry) (e : EntryText) → k < i
     → ShowsEntry (text_of (map pair_text found)) (slice_index_or places k p)
     (slice_index_or (map pair_text found) k e) (drop (k + 1) (map pair_text found)))
-    → (k : ℕ) (p : Entry) (e : EntryText) → k < i + 1
+    → (k : ℕ) (p : PairEntry) (e : EntryText) → k < i + 1
     → ShowsEntry (text_of (map pair_text found)) (slice_index_or (slice_set places i place) k p)
     (slice_index_or (map pair_text found) k e) (drop (k + 1) (map pair_text found))
 shown_more found places i x place room within is begins long value_begins value_long before k p e
     now =
     let entries = map pair_text found in
-    let At : ℕ → Entry → EntryText → Type 0 = λ n a b.
+    let At : ℕ → PairEntry → EntryText → Type 0 = λ n a b.
     ShowsEntry (text_of entries) a b (drop (n + 1) entries) in
     elim (cases_lt k i) [
-      | inl earlier ↦ subst (λ (a : Entry). At k a (slice_index_or entries k e))
+      | inl earlier ↦ subst (λ (a : PairEntry). At k a (slice_index_or entries k e))
           (sym (get_or-set_other places i k place p (λ same. omega (arith, same, earlier))))
           (before k p e earlier)
       | inr later ↦
@@ -217,7 +218,7 @@ shown_more found places i x place room within is begins long value_begins value_
           value_long in
           let at_entry : At i place (slice_index_or entries i e) =
           subst (λ (b : EntryText). At i place b) (sym (entry_at found i x e within is)) stands in
-          let here : Q i = subst (λ (a : Entry). At i a (slice_index_or entries i e))
+          let here : Q i = subst (λ (a : PairEntry). At i a (slice_index_or entries i e))
           (sym (get_or-set_same places i place p room)) at_entry in
           subst Q (sym same) here
     ]

@@ -22,10 +22,10 @@ use Rattle.exported.specs.HttpBody.{IsWritten, WritesRequest, fault_number}
 use Rattle.exported.specs.HttpFraming.{FramesLine, FramesStatus, HasNoHost, HasOneHost}
 use Rattle.exported.specs.HttpFraming.{IsFirstValue, IsHostAt, IsPlaceOf}
 use Rattle.exported.specs.HttpFraming.{IsRejectedAt, IsSecondName, line_at, nowhere, status_at}
-use Rattle.exported.specs.declared.http.Head.{Head}
+use Rattle.exported.specs.declared.http.HttpRequest.{HttpRequest}
 use Rattle.exported.specs.declared.http.body.HttpBody.{HttpBody}
 use Rattle.exported.specs.declared.http.framing.HttpFraming.{HttpFraming}
-use Rattle.exported.specs.declared.http.response.ResponseHead.{ResponseHead}
+use Rattle.exported.specs.declared.http.response.HttpResponse.{HttpResponse}
 
 -- ---- the search for a Host field
 
@@ -178,7 +178,7 @@ rejected_of bytes fields target place line (Err (Body why)) code out framing
 
 -- ---- the head at positions
 
-pub frames_head : (bytes : List ℕ) (head : Head) (places : List Field) (code : ℕ)
+pub frames_head : (bytes : List ℕ) (head : HttpRequest) (places : List Field) (code : ℕ)
     (out : HttpFraming) (shows : ShowsHead bytes (places_of head) places)
     → text_at bytes head.method ≡ shows.line.method
     → text_at bytes head.target ≡ shows.line.target
@@ -198,7 +198,7 @@ frames_head bytes head places code out shows method target fields frames =
         ∙ ap (λ a. of shows.line.method shows.line.target a head.minor) shows.major
         ∙ ap (λ b. of shows.line.method shows.line.target shows.line.major b) shows.minor
 
-pub frames_response : (method bytes : List ℕ) (head : ResponseHead) (places : List Field)
+pub frames_response : (method bytes : List ℕ) (head : HttpResponse) (places : List Field)
     (code : ℕ) (out : HttpFraming) (shows : ShowsResponse bytes (response_of head) places)
     → map (pair_at bytes) places ≡ shows.fields
     → FramesStatus method (status_at bytes head) (map (pair_at bytes) places) code out

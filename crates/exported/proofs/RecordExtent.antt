@@ -14,14 +14,14 @@ use Rattle.format_csv_records.proofs.Extents.{of_none}
 use Rattle.exported.specs.Code.{done, incomplete, invalid}
 use Rattle.exported.specs.CsvExtent.{RecordCalls, TellsRecord, nothing, record_extent_of}
 use Rattle.exported.specs.Turns.{all_of}
-use Rattle.exported.specs.declared.csv.Record.{Record}
+use Rattle.exported.specs.declared.csv.CsvRecordSizes.{CsvRecordSizes}
 use Rattle.exported.specs.declared.csv.extent.CsvRecordState.{CsvRecordState}
 use Rattle.exported.proofs.Records.{HasCounts, wanted}
 use Rattle.exported.proofs.Turns.{calls_from_nothing}
 
 module _ (d : Dialect) (old new : RecordExtent) (bytes : List ℕ)
     (answer : Result (Option RecordSize) InvalidRecord) (before after : CsvRecordState) (code : ℕ)
-    (out : Record) (told : IsExtentOf d old bytes → RecordResult d bytes answer)
+    (out : CsvRecordSizes) (told : IsExtentOf d old bytes → RecordResult d bytes answer)
     (kept : IsExtentOf d old bytes → (more : List ℕ) → IsExtentOf d new (bytes ++ more))
     (was : old ≡ record_extent_of before) (is : record_extent_of after ≡ new)
     (ends : code ≡ done → (size : RecordSize) × (answer ≡ Ok (Some size)) × HasCounts out size)

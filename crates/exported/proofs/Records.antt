@@ -24,17 +24,18 @@ use Rattle.format_csv_records.proofs.Early.{record_goes_on}
 use Rattle.format_csv_records.proofs.One.{refused_is_no_record}
 use Rattle.exported.specs.Csv.{CountsRecord, IsDialect, ShowsRecord, WantsRecord}
 use Rattle.exported.specs.Span.{span_of}
-use Rattle.exported.specs.declared.csv.Record.{Record}
+use Rattle.exported.specs.declared.csv.CsvRecordSizes.{CsvRecordSizes}
 use Rattle.exported.specs.declared.csv.dialect.CsvDialect.{CsvDialect}
 use Rattle.exported.specs.declared.span.Span.{Span}
 
 -- `HasCounts found size`: `found` has the counts of `size`.
-abbrev pub HasCounts : Record → RecordSize → Type 0
+abbrev pub HasCounts : CsvRecordSizes → RecordSize → Type 0
 HasCounts found size = (found.fields ≡ size.fields) × (found.text ≡ size.text)
     × (found.length ≡ size.length)
 
 counts : (begins : List ℕ → List (List ℕ) → List ℕ → Type 0) (d : Dialect) (input : List ℕ)
-    (fields : List (List ℕ)) (size : RecordSize) (found : Record) → SizedAs d input fields size
+    (fields : List (List ℕ)) (size : RecordSize) (found : CsvRecordSizes)
+    → SizedAs d input fields size
     → HasCounts found size → begins input fields (drop size.length input)
     → CountsRecord begins input found fields
 counts begins d input fields size found it (count, total, end) is = record {
@@ -53,7 +54,7 @@ open_still : (A B : Type 0) (b : Bool) → MatchBool b A B → b ≡ false → B
 open_still A B true it is = cc
 open_still A B false it is = it
 
-pub wanted : (d : Dialect) (input : List ℕ) (size : RecordSize) (found : Record)
+pub wanted : (d : Dialect) (input : List ℕ) (size : RecordSize) (found : CsvRecordSizes)
     → HasCounts found size → size.ended ≡ true → IsSized d input size
     → WantsRecord (IsRecordForGood d) input found
 wanted d input size found tells is (fields, it) = (
@@ -63,7 +64,7 @@ wanted d input size found tells is (fields, it) = (
 )
 
 module _ (d : Dialect) (input : List ℕ) where
-  module _ (size : RecordSize) (found : Record) (tells : HasCounts found size) where
+  module _ (size : RecordSize) (found : CsvRecordSizes) (tells : HasCounts found size) where
     pub shown_for_good : size.ended ≡ true → (text : List ℕ) (places : List Span)
         → ShowsFields span_of d input size text places
         → ShowsRecord (IsRecordForGood d) input found text places

@@ -22,7 +22,7 @@ use Rattle.exported.specs.Resp.{Found, HasFields, HasList, IsIncomplete, IsReply
 use Rattle.exported.specs.Resp.{IsCodeOf, IsShownBy, NoReply, Rejects, ShowsReply, TellsReply}
 use Rattle.exported.specs.Resp.{no_reply}
 use Rattle.exported.specs.Span.{EndsWith, StandsAt}
-use Rattle.exported.specs.declared.resp.Reply.{Reply}
+use Rattle.exported.specs.declared.resp.RespValue.{RespValue}
 use Rattle.exported.specs.declared.span.Span.{Span}
 
 -- a reply that is equal to a constructed one has its kind
@@ -76,7 +76,7 @@ elements_count bytes rest left n e is =
 
 module _ (protocol : Protocol) (level : ℕ) (input : List ℕ) where
   -- the description of a reply of a kind
-  pub shown_by : (kind : UnrolledReply Global) (reply : Found) (rest : List ℕ) (it : Reply)
+  pub shown_by : (kind : UnrolledReply Global) (reply : Found) (rest : List ℕ) (it : RespValue)
       → out-Reply (Bor (List ℕ)) Global reply ≡ kind
       → (StandsBy protocol level input kind rest → IsShownBy protocol level input rest kind it)
       → IsReply protocol level input reply rest → IsShown protocol level input rest reply it
@@ -85,7 +85,7 @@ module _ (protocol : Protocol) (level : ℕ) (input : List ℕ) where
       subst P (sym e) (shows (stands_as protocol level input rest reply kind is e))
 
   -- that of elements
-  pub list_shown : (kind left count : ℕ) (elements : List Found) (rest : List ℕ) (it : Reply)
+  pub list_shown : (kind left count : ℕ) (elements : List Found) (rest : List ℕ) (it : RespValue)
       → ((bytes rest : List ℕ) → IsBehindFeed input (bytes ++ rest) → length rest ≡ left
       → HasFields it kind (pos 0) count × StandsAt input it.span bytes rest)
       → count ≡ length elements → length rest ≡ left
@@ -112,7 +112,7 @@ module _ (protocol : Protocol) (level : ℕ) (input : List ℕ) where
   reply_long reply rest (front, is, e) =
       omega (arith, ap length e, length-append front rest)
 
-  pub reply_told : (it : Reply) (reply : Found) (rest : List ℕ) (left : ℕ)
+  pub reply_told : (it : RespValue) (reply : Found) (rest : List ℕ) (left : ℕ)
       → IsReply protocol level input reply rest → length rest ≡ left
       → IsShown protocol level input rest reply it
       → (left ≤ length input → (it.length + left ≡ length input) × (it.error_offset ≡ 0))
@@ -225,7 +225,7 @@ module _ (protocol : Protocol) (level : ℕ) (input : List ℕ) where
       subst (λ r. Rejects protocol level input r invalid.offset)
       (same_reason invalid.reason reason code is also) (rejects protocol level input invalid found)
 
-  pub tells_done : (it : Reply) → level ≤ 512 → ShowsReply protocol level input it
+  pub tells_done : (it : RespValue) → level ≤ 512 → ShowsReply protocol level input it
       → TellsReply protocol level input 0 it
   tells_done it small shows = record {
     reply = λ _. shows;

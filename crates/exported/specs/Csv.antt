@@ -8,7 +8,7 @@ use Rattle.format_csv_records.specs.declared.dialect.LineEnds.{LineEnds}
 use Rattle.format_csv_records.specs.declared.dialect.LineEnds.TheVariants.{CrLf, Either, Lf}
 use Rattle.format_csv_records.specs.declared.read.Reason.{Reason}
 use Rattle.exported.specs.Span.{span_of}
-use Rattle.exported.specs.declared.csv.Record.{Record}
+use Rattle.exported.specs.declared.csv.CsvRecordSizes.{CsvRecordSizes}
 use Rattle.exported.specs.declared.csv.dialect.CsvDialect.{CsvDialect}
 use Rattle.exported.specs.declared.span.Span.{Span}
 
@@ -29,7 +29,7 @@ abbrev pub HasDialect : CsvDialect → Type 0
 HasDialect given = (d : Dialect) × IsDialect given d
 
 -- No fields, no bytes of theirs, and no length.
-abbrev pub HasNoSizes : Record → Type 0
+abbrev pub HasNoSizes : CsvRecordSizes → Type 0
 HasNoSizes found = (found.fields ≡ 0) × (found.text ≡ 0) × (found.length ≡ 0)
 
 -- The bytes begin with no record.
@@ -44,7 +44,7 @@ IsRefusedAt d input place = ((input ≡ []) × (place ≡ 0))
 
 -- The input begins with a record, which has that many fields, bytes of these, and bytes.
 pub record CountsRecord (begins : List ℕ → List (List ℕ) → List ℕ → Type 0) (input : List ℕ)
-    (found : Record) (fields : List (List ℕ)) : Type 0 where
+    (found : CsvRecordSizes) (fields : List (List ℕ)) : Type 0 where
   pub rest : List ℕ
   pub is_record : begins input fields rest
   pub count : found.fields ≡ length fields
@@ -54,13 +54,14 @@ pub record CountsRecord (begins : List ℕ → List (List ℕ) → List ℕ → 
 -- `ShowsRecord begins input found text places`: `input` begins with a record with the counts of
 -- `found`, `text` is the concatenation of its fields, and `places` are their spans in `text`, in
 -- order.
-abbrev pub ShowsRecord : (List ℕ → List (List ℕ) → List ℕ → Type 0) → List ℕ → Record → List ℕ
-    → List Span → Type 0
+abbrev pub ShowsRecord : (List ℕ → List (List ℕ) → List ℕ → Type 0) → List ℕ → CsvRecordSizes
+    → List ℕ → List Span → Type 0
 ShowsRecord begins input found text places =
     (fields : List (List ℕ)) × CountsRecord begins input found fields × (text ≡ text_of fields)
     × (places ≡ places_of span_of 0 fields)
 
 -- `WantsRecord begins input found`: `input` begins with a record that needs the sizes in `found`.
-abbrev pub WantsRecord : (List ℕ → List (List ℕ) → List ℕ → Type 0) → List ℕ → Record → Type 0
+abbrev pub WantsRecord : (List ℕ → List (List ℕ) → List ℕ → Type 0) → List ℕ → CsvRecordSizes
+    → Type 0
 WantsRecord begins input found =
     (fields : List (List ℕ)) × CountsRecord begins input found fields

@@ -10,7 +10,7 @@ use Rattle.format_csv_records.specs.declared.extent.RecordPlace.TheVariants as p
 use Rattle.exported.specs.Code.{done, incomplete, invalid}
 use Rattle.exported.specs.Csv.{IsRefusedAt, WantsRecord}
 use Rattle.exported.specs.Turns.{CallsFrom}
-use Rattle.exported.specs.declared.csv.Record.{Record}
+use Rattle.exported.specs.declared.csv.CsvRecordSizes.{CsvRecordSizes}
 use Rattle.exported.specs.declared.csv.extent.CsvRecordState.{CsvRecordState}
 
 -- the part of a record that is expected next, from its number
@@ -36,7 +36,7 @@ nothing = record { passed = 0; text = 0; fields = 0; place = 0 }
 -- record, but some continuation completes one. `refused`: no continuation starts with a record, and
 -- `out.place` is the first offset at which no record can continue. `state` is a state of `bytes`,
 -- for any continuation.
-pub record TellsRecord (d : Dialect) (bytes : List ℕ) (code : ℕ) (out : Record)
+pub record TellsRecord (d : Dialect) (bytes : List ℕ) (code : ℕ) (out : CsvRecordSizes)
     (state : CsvRecordState) : Type 0 where
   pub ends : code ≡ done → WantsRecord (IsRecordForGood d) bytes out
   pub wants : code ≡ incomplete → NoRecordForGood d bytes × IsViablePrefix d bytes

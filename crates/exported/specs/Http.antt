@@ -12,8 +12,8 @@ use Rattle.format_http_places.specs.declared.parts.HeadPart.TheVariants as part
 use Rattle.format_http_places.specs.declared.places.FieldLines.{FieldLines}
 use Rattle.format_http_places.specs.declared.places.Head.{Head as Places}
 use Rattle.format_http_places.specs.declared.places.ResponseHead.{ResponseHead as ResponsePlaces}
-use Rattle.exported.specs.declared.http.Head.{Head}
-use Rattle.exported.specs.declared.http.response.ResponseHead.{ResponseHead}
+use Rattle.exported.specs.declared.http.HttpRequest.{HttpRequest}
+use Rattle.exported.specs.declared.http.response.HttpResponse.{HttpResponse}
 use Rattle.exported.specs.declared.http.trailers.HttpFields.{HttpFields}
 
 -- the number of a part of a head
@@ -34,7 +34,7 @@ pub record HasPart (k : HeadKind) (bytes : List ℕ) (place error : ℕ) : Type 
   pub is_number : error ≡ part_number part
 
 -- the places of a head
-abbrev pub places_of : Head → Places
+abbrev pub places_of : HttpRequest → Places
 places_of head = record {
   method = head.method;
   target = head.target;
@@ -45,7 +45,7 @@ places_of head = record {
 }
 
 -- Only the number of fields and the offset of an error may differ from 0.
-abbrev pub HasNoParts : Head → Type 0
+abbrev pub HasNoParts : HttpRequest → Type 0
 HasNoParts head = (head.method ≡ record { offset = 0; length = 0 })
     × (head.target ≡ record { offset = 0; length = 0 }) × (head.length ≡ 0)
     × (head.major ≡ 0) × (head.minor ≡ 0)
@@ -59,7 +59,7 @@ IsNoHead bytes place error = (IsRefused bytes place × HasPart kind.Request byte
 -- ---- responses
 
 -- the numbers and the places of a head
-abbrev pub response_of : ResponseHead → ResponsePlaces
+abbrev pub response_of : HttpResponse → ResponsePlaces
 response_of head = record {
   reason = head.reason;
   fields = head.fields;
@@ -70,7 +70,7 @@ response_of head = record {
 }
 
 -- Only the number of fields and the offset of an error may differ from 0.
-abbrev pub HasNoResponseParts : ResponseHead → Type 0
+abbrev pub HasNoResponseParts : HttpResponse → Type 0
 HasNoResponseParts head = (head.reason ≡ record { offset = 0; length = 0 }) × (head.length ≡ 0)
     × (head.status ≡ 0) × (head.major ≡ 0) × (head.minor ≡ 0)
 

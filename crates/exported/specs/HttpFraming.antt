@@ -18,14 +18,14 @@ use Rattle.format_http_places.specs.Slices.{pair_at, text_at}
 use Rattle.format_http_places.specs.declared.places.Field.{Field}
 use Rattle.format_http_places.specs.declared.places.Span.{Span}
 use Rattle.exported.specs.HttpBody.{Writes, WritesRequest}
-use Rattle.exported.specs.declared.http.Head.{Head}
+use Rattle.exported.specs.declared.http.HttpRequest.{HttpRequest}
 use Rattle.exported.specs.declared.http.framing.HttpFraming.{HttpFraming}
-use Rattle.exported.specs.declared.http.response.ResponseHead.{ResponseHead}
+use Rattle.exported.specs.declared.http.response.HttpResponse.{HttpResponse}
 
 -- ---- what is at the positions
 
 -- the request line at the positions of a head
-abbrev pub line_at : List ℕ → Head → Request
+abbrev pub line_at : List ℕ → HttpRequest → Request
 line_at bytes head = record {
   method = text_at bytes head.method;
   target = text_at bytes head.target;
@@ -34,7 +34,7 @@ line_at bytes head = record {
 }
 
 -- the status line of a head
-abbrev pub status_at : List ℕ → ResponseHead → Status
+abbrev pub status_at : List ℕ → HttpResponse → Status
 status_at bytes head = record {
   major = head.major;
   minor = head.minor;

@@ -5,8 +5,8 @@ use Rattle.std.specs.List.{flat_map}
 use Rattle.readers.specs.Document.{HasSections, SectionText}
 use Rattle.readers.specs.Pair.{IsPairLine}
 use Rattle.exported.specs.Span.{StandsAt}
-use Rattle.exported.specs.declared.pairs.Document.{Document}
-use Rattle.exported.specs.declared.pairs.Entry.{Entry}
+use Rattle.exported.specs.declared.pairs.PairSizes.{PairSizes}
+use Rattle.exported.specs.declared.pairs.PairEntry.{PairEntry}
 use Rattle.exported.specs.declared.pairs.Pair.{Pair}
 
 -- `ShowsPair line places`: `line` consists of a key and a value at these spans. The key is followed
@@ -32,39 +32,39 @@ text_of entries = flat_map (λ e. e.0 ++ e.1) entries
 
 -- `ShowsEntry text places entry others`: `entry` is at these spans of `text`, its key before its
 -- value, followed by the bytes of `others`.
-abbrev pub ShowsEntry : List ℕ → Entry → EntryText → List EntryText → Type 0
+abbrev pub ShowsEntry : List ℕ → PairEntry → EntryText → List EntryText → Type 0
 ShowsEntry text places entry others =
     StandsAt text places.key entry.0 (entry.1 ++ text_of others)
     × StandsAt text places.value entry.1 (text_of others)
 
 -- `AreEntries text places entries`: `text` is the concatenation of `entries`, and `places` are
 -- their spans in `text`, in the same order.
-pub record AreEntries (text : List ℕ) (places : List Entry) (entries : List EntryText) : Type 0
+pub record AreEntries (text : List ℕ) (places : List PairEntry) (entries : List EntryText) : Type 0
   where
     pub whole : text ≡ text_of entries
     pub count : length places ≡ length entries
-    pub each : (k : ℕ) (p : Entry) (e : EntryText) → k < length entries
+    pub each : (k : ℕ) (p : PairEntry) (e : EntryText) → k < length entries
         → ShowsEntry text (slice_index_or places k p) (slice_index_or entries k e)
         (drop (k + 1) entries)
 
 -- No entries, and no bytes of theirs.
-abbrev pub HasNoSizes : Document → Type 0
+abbrev pub HasNoSizes : PairSizes → Type 0
 HasNoSizes found = (found.entries ≡ 0) × (found.text ≡ 0)
 
 -- The input is a document with these sections, which has that many entries and bytes of these.
-pub record CountsDocument (input : List ℕ) (found : Document) (sections : List SectionText) : Type 0
-  where
-    pub has : HasSections input sections
-    pub count : found.entries ≡ length (entries_of sections)
-    pub bytes : found.text ≡ length (text_of (entries_of sections))
+pub record CountsDocument (input : List ℕ) (found : PairSizes) (sections : List SectionText)
+    : Type 0 where
+  pub has : HasSections input sections
+  pub count : found.entries ≡ length (entries_of sections)
+  pub bytes : found.text ≡ length (text_of (entries_of sections))
 
 -- `ShowsDocument input found text places`: `input` is a document with the counts of `found`, and
 -- its entries are at these spans of `text`.
-abbrev pub ShowsDocument : List ℕ → Document → List ℕ → List Entry → Type 0
+abbrev pub ShowsDocument : List ℕ → PairSizes → List ℕ → List PairEntry → Type 0
 ShowsDocument input found text places =
     (sections : List SectionText) × CountsDocument input found sections
     × AreEntries text places (entries_of sections)
 
 -- `WantsDocument input found`: `input` is a document that needs the sizes in `found`.
-abbrev pub WantsDocument : List ℕ → Document → Type 0
+abbrev pub WantsDocument : List ℕ → PairSizes → Type 0
 WantsDocument input found = (sections : List SectionText) × CountsDocument input found sections

@@ -18,7 +18,7 @@ use Rattle.winnow.specs.Texts.{EachText}
 use Rattle.exported.specs.Code.{done, incomplete, invalid, max_depth_too_large, no_memory}
 use Rattle.exported.specs.Code.{out_of_range, supported_depth, too_deep}
 use Rattle.exported.specs.Span.{StandsAt, nowhere}
-use Rattle.exported.specs.declared.resp.Reply.{Reply}
+use Rattle.exported.specs.declared.resp.RespValue.{RespValue}
 use Rattle.exported.specs.declared.resp.nodes.RespNodesSize.{RespNodesSize}
 
 -- A reply whose bytes are slices.
@@ -53,7 +53,7 @@ IsIncomplete protocol level input =
     NoReply protocol level input × IsWantingWithin protocol level input
 
 -- the reply of nothing, with the offset of an error
-abbrev pub no_reply : ℕ → Reply
+abbrev pub no_reply : ℕ → RespValue
 no_reply offset = record {
   kind = 0;
   number = pos 0;
@@ -65,25 +65,25 @@ no_reply offset = record {
 
 -- `HasFields it kind number elements`: `it` has this kind, this number, and this number of
 -- elements.
-pub record HasFields (it : Reply) (kind : ℕ) (number : ℤ) (elements : ℕ) : Type 0 where
+pub record HasFields (it : RespValue) (kind : ℕ) (number : ℤ) (elements : ℕ) : Type 0 where
   pub is_kind : it.kind ≡ kind
   pub is_number : it.number ≡ number
   pub count : it.elements ≡ elements
 
 -- It has only a number.
-abbrev pub HasNumber : ℕ → ℤ → Reply → Type 0
+abbrev pub HasNumber : ℕ → ℤ → RespValue → Type 0
 HasNumber kind number it = HasFields it kind number 0 × (it.span ≡ nowhere)
 
 -- `HasText kind input rest text it`: `it` has the text `text`, followed by a line ending and
 -- `rest`, and neither a number nor elements.
-abbrev pub HasText : ℕ → List ℕ → List ℕ → List ℕ → Reply → Type 0
+abbrev pub HasText : ℕ → List ℕ → List ℕ → List ℕ → RespValue → Type 0
 HasText kind input rest text it =
     HasFields it kind (pos 0) 0 × StandsAt input it.span text (line_end ++ rest)
 
 -- `HasList protocol level kind input rest elements it`: the span in `it` holds the encodings of
 -- `elements`. It follows the first line of the reply, and is followed by `rest`.
 pub record HasList (protocol : Protocol) (level kind : ℕ) (input rest : List ℕ)
-    (elements : List Found) (it : Reply) : Type 0 where
+    (elements : List Found) (it : RespValue) : Type 0 where
   pub fields : HasFields it kind (pos 0) (length elements)
   pub inner : ℕ
   pub deeper : level ≡ suc inner
@@ -99,7 +99,7 @@ number_of false = pos 0
 
 -- `IsShownBy protocol level input rest opened it`: `it` describes a reply of `input` that is
 -- followed by `rest`, by the kind of the reply.
-abbrev pub IsShownBy : Protocol → ℕ → List ℕ → List ℕ → UnrolledReply Global → Reply → Type 0
+abbrev pub IsShownBy : Protocol → ℕ → List ℕ → List ℕ → UnrolledReply Global → RespValue → Type 0
 IsShownBy p level input rest (Reply-F.Simple text) it = HasText 0 input rest text.now it
 IsShownBy p level input rest (Reply-F.Error text) it = HasText 1 input rest text.now it
 IsShownBy p level input rest (Reply-F.Integer number) it = HasNumber 2 number it
@@ -119,13 +119,13 @@ IsShownBy p level input rest (Reply-F.Push list) it = HasList p level 15 input r
 IsShownBy p level input rest (Reply-F.Attributed list) it =
     HasList p level 16 input rest list.items it
 
-abbrev pub IsShown : Protocol → ℕ → List ℕ → List ℕ → Found → Reply → Type 0
+abbrev pub IsShown : Protocol → ℕ → List ℕ → List ℕ → Found → RespValue → Type 0
 IsShown protocol level input rest reply it =
     IsShownBy protocol level input rest (out-Reply (Bor (List ℕ)) Global reply) it
 
 -- `ShowsReply protocol level input it`: `input` begins with a reply that `it` describes, for any
 -- continuation.
-pub record ShowsReply (protocol : Protocol) (level : ℕ) (input : List ℕ) (it : Reply)
+pub record ShowsReply (protocol : Protocol) (level : ℕ) (input : List ℕ) (it : RespValue)
     : Type 0 where
   pub reply : Found
   pub rest : List ℕ
@@ -149,7 +149,7 @@ IsCodeOf TooLarge code = code ≡ out_of_range
 IsCodeOf TooDeep code = code ≡ too_deep
 
 -- `TellsReply protocol level input code it`: the result by `code`.
-pub record TellsReply (protocol : Protocol) (level : ℕ) (input : List ℕ) (code : ℕ) (it : Reply)
+pub record TellsReply (protocol : Protocol) (level : ℕ) (input : List ℕ) (code : ℕ) (it : RespValue)
     : Type 0 where
   pub reply : code ≡ done → ShowsReply protocol level input it
   pub rejected : (reason : Reason) → IsCodeOf reason code

@@ -25,7 +25,7 @@ use format_csv_records::dialect::Dialect;
 /// The sizes of a record, or the offset of an error.
 #[repr(C)]
 #[derive(Clone, Copy, Drop)]
-pub struct Record {
+pub struct CsvRecordSizes {
     /// How many fields there are.
     pub fields: usize,
     /// How many bytes the fields have together, as they are written.
@@ -37,11 +37,11 @@ pub struct Record {
 }
 
 /// Returns a record without fields, with the offset of an error.
-pub(crate) fn none_at(place: usize) -> Record
+pub(crate) fn none_at(place: usize) -> CsvRecordSizes
     ensures place { result.error_offset ≡ place }
     ensures sizes { HasNoSizes result }
 {
-    Record {
+    CsvRecordSizes {
         fields: 0,
         text: 0,
         length: 0,
@@ -57,7 +57,7 @@ fn write_record(
     size: RecordSize,
     text: &mut [u8],
     fields: &mut [Span],
-    out: &mut Record,
+    out: &mut CsvRecordSizes,
 ) -> u32
     requires { IsSized dialect bytes.now size }
     ensures nowhere { out.new.error_offset ≡ 0 }
@@ -75,7 +75,7 @@ fn write_record(
     ensures kept { result ≡ buffer_too_small → (fields.new ≡ fields.old) × (text.new ≡ text.old) }
     ensures codes { (result ≡ done) ⊎ (result ≡ buffer_too_small) }
 {
-    *out = Record {
+    *out = CsvRecordSizes {
         fields: size.fields,
         text: size.text,
         length: size.length,
@@ -95,7 +95,7 @@ fn read_record(
     bytes: &[u8],
     text: &mut [u8],
     fields: &mut [Span],
-    out: &mut Record,
+    out: &mut CsvRecordSizes,
 ) -> u32
     ensures record { result ≡ done → ShowsRecord (IsRecord dialect) bytes.now out.new
         (take out.new.text text.new) (take out.new.fields fields.new) }
@@ -163,7 +163,7 @@ pub extern "C" fn exported_csv_record(
     dialect: &CsvDialect,
     text: &mut [u8],
     fields: &mut [Span],
-    out: &mut Record,
+    out: &mut CsvRecordSizes,
 ) -> u32
     ensures record { result ≡ done → (d : Dialect) → IsDialect dialect.now d
         → ShowsRecord (IsRecord d) bytes.now out.new
@@ -201,7 +201,7 @@ fn read_partial(
     bytes: &[u8],
     text: &mut [u8],
     fields: &mut [Span],
-    out: &mut Record,
+    out: &mut CsvRecordSizes,
 ) -> u32
     requires { dialect.quote < 256 }
     ensures record { result ≡ done → ShowsRecord (IsRecordForGood dialect) bytes.now out.new
@@ -276,7 +276,7 @@ pub extern "C" fn exported_csv_record_partial(
     dialect: &CsvDialect,
     text: &mut [u8],
     fields: &mut [Span],
-    out: &mut Record,
+    out: &mut CsvRecordSizes,
 ) -> u32
     ensures record { result ≡ done → (d : Dialect) → IsDialect dialect.now d
         → ShowsRecord (IsRecordForGood d) bytes.now out.new

@@ -29,7 +29,7 @@ use format_http_places::read::{HeadError, read_head_into};
 /// The places of the parts of a head.
 #[repr(C)]
 #[derive(Clone, Copy, Drop)]
-pub struct Head {
+pub struct HttpRequest {
     /// The method.
     pub method: Span,
     /// The request target.
@@ -49,7 +49,7 @@ pub struct Head {
 }
 
 /// Returns an empty head with a number of fields, and the offset and the number of an error.
-fn none(fields: usize, place: usize, error: u32) -> Head
+fn none(fields: usize, place: usize, error: u32) -> HttpRequest
     ensures fields { result.fields ≡ fields }
     ensures place { (result.error_offset ≡ place) × (result.error ≡ error) }
     ensures parts { HasNoParts result }
@@ -58,7 +58,7 @@ fn none(fields: usize, place: usize, error: u32) -> Head
         offset: 0,
         length: 0,
     };
-    Head {
+    HttpRequest {
         method: nowhere,
         target: nowhere,
         fields,
@@ -71,11 +71,11 @@ fn none(fields: usize, place: usize, error: u32) -> Head
 }
 
 /// A head that was found.
-fn head_of(found: places::Head) -> Head
+fn head_of(found: places::Head) -> HttpRequest
     ensures places { places_of result ≡ found }
     ensures place { (result.error_offset ≡ 0) × (result.error ≡ 0) }
 {
-    Head {
+    HttpRequest {
         method: found.method,
         target: found.target,
         fields: found.fields,
@@ -113,7 +113,11 @@ fn head_of(found: places::Head) -> Head
 /// `fields` must be valid for writes of `fields_length` entries, and `out` for writes of one head.
 /// None of these may overlap. The call needs 16 KiB of stack.
 #[unsafe(no_mangle)]
-pub extern "C" fn exported_http_head(bytes: &[u8], fields: &mut [Field], out: &mut Head) -> u32
+pub extern "C" fn exported_http_head(
+    bytes: &[u8],
+    fields: &mut [Field],
+    out: &mut HttpRequest,
+) -> u32
     ensures head { result ≡ done
         → ShowsHead bytes.now (places_of out.new) (take out.new.fields fields.new) }
     ensures room { result ≡ done → out.new.fields ≤ length fields.old }
@@ -177,7 +181,7 @@ pub extern "C" fn exported_http_head(bytes: &[u8], fields: &mut [Field], out: &m
 pub extern "C" fn exported_http_head_partial(
     bytes: &[u8],
     fields: &mut [Field],
-    out: &mut Head,
+    out: &mut HttpRequest,
 ) -> u32
     ensures head { result ≡ done
         → ShowsHead bytes.now (places_of out.new) (take out.new.fields fields.new) }

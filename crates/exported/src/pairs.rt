@@ -86,7 +86,7 @@ pub extern "C" fn exported_pair_line(bytes: &[u8], out: &mut Pair) -> u32
 /// An entry of a document: a pair, or the head of a section.
 #[repr(C)]
 #[derive(Clone, Copy, Drop)]
-pub struct Entry {
+pub struct PairEntry {
     /// The key of a pair. It is empty for the head of a section, and only there.
     pub key: Span,
     /// The value of a pair, or the name of a section. It may have no bytes.
@@ -96,7 +96,7 @@ pub struct Entry {
 /// The sizes of a document, or the offset of an error.
 #[repr(C)]
 #[derive(Clone, Copy, Drop)]
-pub struct Document {
+pub struct PairSizes {
     /// How many entries there are.
     pub entries: usize,
     /// How many bytes the keys, the values and the names have together.
@@ -106,7 +106,7 @@ pub struct Document {
 }
 
 /// The document of nothing.
-const NONE: Document = Document {
+const NONE: PairSizes = PairSizes {
     entries: 0,
     text: 0,
     error_offset: 0,
@@ -116,8 +116,8 @@ const NONE: Document = Document {
 fn write_entries(
     found: &[(&str, &str)],
     text: &mut [u8],
-    entries: &mut [Entry],
-    out: &mut Document,
+    entries: &mut [PairEntry],
+    out: &mut PairSizes,
 ) -> u32
     requires { length (text_of (map pair_text found.now)) < 2 ^ 63 }
     ensures count { out.new.entries ≡ length found.now }
@@ -137,7 +137,7 @@ fn write_entries(
     ensures codes { (result ≡ done) ⊎ (result ≡ buffer_too_small) }
 {
     let (count, total) = (found.len(), bytes_of(found));
-    *out = Document {
+    *out = PairSizes {
         entries: count,
         text: total,
         error_offset: 0,
@@ -190,8 +190,8 @@ pub extern "C" fn exported_pair_document(
     alloc: Global,
     bytes: &[u8],
     text: &mut [u8],
-    entries: &mut [Entry],
-    out: &mut Document,
+    entries: &mut [PairEntry],
+    out: &mut PairSizes,
 ) -> u32
     ensures document { result ≡ done → ShowsDocument bytes.now out.new
         (take out.new.text text.new) (take out.new.entries entries.new) }

@@ -37,7 +37,7 @@ use winnow::stream::{Partial, StreamIsPartial};
 /// A reply.
 #[repr(C)]
 #[derive(Clone, Copy, Drop)]
-pub struct Reply {
+pub struct RespValue {
     /// The kind of the reply: one of the constants from `RESP_SIMPLE` to `RESP_ATTRIBUTES`.
     pub kind: u32,
     /// The number of an integer; 1 for true; 0 otherwise.
@@ -76,7 +76,7 @@ pub struct RespReplyState {
 }
 
 /// The reply of nothing.
-pub(crate) const NONE: Reply = Reply {
+pub(crate) const NONE: RespValue = RespValue {
     kind: RESP_SIMPLE,
     number: 0,
     elements: 0,
@@ -108,7 +108,7 @@ pub(crate) fn code_of(reason: Reason) -> u32
 }
 
 /// Parses the reply, or writes the offset at which it is rejected.
-fn read(alloc: Global, protocol: u32, bytes: &[u8], max_depth: usize, out: &mut Reply) -> u32
+fn read(alloc: Global, protocol: u32, bytes: &[u8], max_depth: usize, out: &mut RespValue) -> u32
     ensures { TellsReply (protocol_of protocol) max_depth bytes.now result out.new }
 {
     *out = NONE;
@@ -129,7 +129,7 @@ fn read(alloc: Global, protocol: u32, bytes: &[u8], max_depth: usize, out: &mut 
             }
             match bounded_length(protocol, max_depth, bytes) {
                 Err(invalid) => {
-                    *out = Reply {
+                    *out = RespValue {
                         error_offset: invalid.offset,
                         ..NONE
                     };
@@ -189,7 +189,7 @@ pub extern "C" fn exported_resp_reply(
     bytes: &[u8],
     protocol: u32,
     max_depth: usize,
-    out: &mut Reply,
+    out: &mut RespValue,
 ) -> u32
     ensures reply { result ≡ done → ShowsReply (protocol_of protocol) max_depth bytes.now out.new }
     ensures refused { result ≡ invalid → Rejects (protocol_of protocol) max_depth bytes.now
@@ -209,7 +209,7 @@ pub extern "C" fn exported_resp_reply(
 {
     let code = read(alloc, protocol, bytes, max_depth, out);
     if code == INCOMPLETE {
-        *out = Reply {
+        *out = RespValue {
             error_offset: bytes.len(),
             ..NONE
         };
@@ -245,7 +245,7 @@ pub extern "C" fn exported_resp_reply_partial(
     bytes: &[u8],
     protocol: u32,
     max_depth: usize,
-    out: &mut Reply,
+    out: &mut RespValue,
 ) -> u32
     ensures reply { result ≡ done → ShowsReply (protocol_of protocol) max_depth bytes.now out.new }
     ensures refused { result ≡ invalid → Rejects (protocol_of protocol) max_depth bytes.now

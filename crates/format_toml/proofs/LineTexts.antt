@@ -231,9 +231,9 @@ module _ {A : Type 0} (level : ℕ) where
 pub document_of : {A : Type 0} (level : ℕ)
     → IsGrammarOf (Document {A = A} level) (DocumentText level) AtEnd
 document_of level =
-    gathered_of HasStatements
-    (parted_of (line_of level) newline_of (front_begins (λ c is. is) newline_begins) front_any
-    (from_to 1 None) 1 refl (may_begin_none IsBreak)
+    gathered_of HasStatements (parted_of (line_of level) newline_of
+    (front_begins (λ c is. is) newline_begins)
+    front_any (from_to 1 None) 1 refl (may_begin_none IsBreak)
     (λ rest e. none_begins newline_of newline_begins rest
     (may_begin_none (λ c. IsBreak c → ⊥) rest e))
     (λ rest never e. omega arith))

@@ -60,15 +60,14 @@ module _ {T O : Type 0} {like : O → O → Type 0} {g : Grammar T O} (keeps : K
   optional_keeps = record {
     kept = λ tokens o p rest (x, y, e, f, same) it. elim it [
       | inl (z, d, m) ↦
-          let as_z = subst (λ v. like v y) (same_some (sym e ∙ d)) same in
-          inl (y, f, keeps.kept tokens z y rest as_z m)
+          let alike = subst (λ v. like v y) (same_some (sym e ∙ d)) same in
+          inl (y, f, keeps.kept tokens z y rest alike m)
       | inr (none, not, d) ↦ absurd (none_some (sym none ∙ e))
     ];
   }
 
   pub reads_kept : {L E : Type 0} {reading : Reading T L} {kind : E → Kind} {i j : Input T}
-      {o p : O}
-      → like o p → Reads reading kind g i (Ok o) j → Reads reading kind g i (Ok p) j
+      {o p : O} → like o p → Reads reading kind g i (Ok o) j → Reads reading kind g i (Ok p) j
   reads_kept {i = i} {j = j} {o = o} {p = p} same r = record {
     ends = r.ends;
     stands = λ whole. keeps.kept i.left.tokens o p j.left.tokens same (r.stands whole);

@@ -266,9 +266,9 @@ module _ (level : ℕ) where
   pub document_accepted : {A : Type 0} (lines : Vec (Item A) A) (tokens : List ℕ)
       → DocumentText level lines tokens → IsAccepted level tokens
   document_accepted lines tokens text =
-      let rows = some_front {item = λ l. At level modes.Line [] l} {after = Ending}
-      (newline_front (λ l x. (x, x, x)) (λ l x. (x, x, x))) line_front line_front in
-      let front = gathered_front HasStatements rows in
+      let front = gathered_front HasStatements
+      (some_front {item = λ l. At level modes.Line [] l} {after = Ending}
+      (newline_front (λ l x. (x, x, x)) (λ l x. (x, x, x))) line_front line_front) in
       subst (λ l. At level modes.Line [] l) (append-nil tokens)
       (front.makes lines tokens [] text (refl, refl, refl))
 

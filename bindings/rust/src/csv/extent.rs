@@ -63,7 +63,7 @@ impl Extent {
     /// holds the offset of the first invalid byte. [`Error::InvalidDialect`] if there is no such
     /// dialect.
     pub fn advance(&mut self, bytes: &[u8]) -> Result<Option<Size>, Error> {
-        let mut out = exports::Record::default();
+        let mut out = exports::CsvRecordSizes::default();
         let given = self.dialect.given();
         let state = &mut self.state;
         // SAFETY: the pointers are those of live borrows, and the bytes are only read. The call takes up

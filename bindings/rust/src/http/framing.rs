@@ -25,7 +25,7 @@ fn framing(bytes: &[u8], code: u32, out: exports::HttpFraming) -> Framing<'_> {
 /// Returns the framing of a request whose head was read from these bytes.
 pub(super) fn of_request<'i>(
     bytes: &'i [u8],
-    head: &exports::Head,
+    head: &exports::HttpRequest,
     fields: &[Field],
 ) -> Framing<'i> {
     let mut out = exports::HttpFraming::default();
@@ -44,7 +44,7 @@ pub(super) fn of_request<'i>(
 pub(super) fn of_response<'i>(
     method: &[u8],
     bytes: &'i [u8],
-    head: &exports::ResponseHead,
+    head: &exports::HttpResponse,
     fields: &[Field],
 ) -> Framing<'i> {
     let mut out = exports::HttpFraming::default();

@@ -11,7 +11,7 @@ use alloc::vec::Vec;
 #[derive(Clone, Copy, Debug)]
 pub struct ResponseHead<'i, 'f> {
     bytes: &'i [u8],
-    places: exports::ResponseHead,
+    places: exports::HttpResponse,
     fields: &'f [Field],
 }
 
@@ -76,15 +76,15 @@ impl<'i, 'f> ResponseHead<'i, 'f> {
 }
 
 type Export =
-    unsafe extern "C" fn(*const u8, usize, *mut Field, usize, *mut exports::ResponseHead) -> u32;
+    unsafe extern "C" fn(*const u8, usize, *mut Field, usize, *mut exports::HttpResponse) -> u32;
 
 /// Returns the parts of the head that was written.
 fn write(
     export: Export,
     bytes: &[u8],
     fields: &mut [Field],
-) -> Result<exports::ResponseHead, Error> {
-    let mut places = exports::ResponseHead::default();
+) -> Result<exports::HttpResponse, Error> {
+    let mut places = exports::HttpResponse::default();
     let (entries, count) = (fields.as_mut_ptr(), fields.len());
     // SAFETY: the pointers are those of live borrows, and the bytes are only read. The call takes up to
     // 4 KiB of stack (measured); where there is less, the thread's guard page ends the program.

@@ -12,7 +12,7 @@ ghost use Rattle.exported.specs.declared.csv.extent.CsvRecordState.{CsvRecordSta
 
 use crate::code::{DONE, INCOMPLETE, INVALID, INVALID_DIALECT};
 use crate::csv::dialect::{CsvDialect, dialect_of};
-use crate::csv::{Record, none_at};
+use crate::csv::{CsvRecordSizes, none_at};
 use format_csv_records::dialect::Dialect;
 use format_csv_records::extent::{RecordExtent, RecordPlace};
 
@@ -85,7 +85,12 @@ fn state_at(extent: RecordExtent) -> CsvRecordState
 }
 
 /// Finds the end of a record of this dialect, as `exported_csv_record_extent` does.
-fn find_end(dialect: Dialect, state: &mut CsvRecordState, bytes: &[u8], out: &mut Record) -> u32
+fn find_end(
+    dialect: Dialect,
+    state: &mut CsvRecordState,
+    bytes: &[u8],
+    out: &mut CsvRecordSizes,
+) -> u32
     ensures told { IsExtentOf dialect (record_extent_of state.old) bytes.now
         → TellsRecord dialect bytes.now result out.new state.new }
     ensures nowhere { (result ≡ invalid → ⊥) → out.new.error_offset ≡ 0 }
@@ -99,7 +104,7 @@ fn find_end(dialect: Dialect, state: &mut CsvRecordState, bytes: &[u8], out: &mu
     *state = state_at(extent);
     match answer {
         Ok(Some(size)) => {
-            *out = Record {
+            *out = CsvRecordSizes {
                 fields: size.fields,
                 text: size.text,
                 length: size.length,
@@ -159,7 +164,7 @@ pub extern "C" fn exported_csv_record_extent(
     state: &mut CsvRecordState,
     bytes: &[u8],
     dialect: &CsvDialect,
-    out: &mut Record,
+    out: &mut CsvRecordSizes,
 ) -> u32
     ensures told { (d : Dialect) → IsDialect dialect.now d
         → IsExtentOf d (record_extent_of state.old) bytes.now

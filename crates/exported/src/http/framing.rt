@@ -12,9 +12,9 @@ ghost use Rattle.exported.specs.HttpFraming.{IsDelimited, IsFirstValue, IsNextHo
 ghost use Rattle.exported.specs.HttpFraming.{IsRejectedAt, IsSecondName, Remains, fields_at};
 ghost use Rattle.exported.specs.HttpFraming.{line_at, nowhere, status_at};
 
-use crate::http::Head;
+use crate::http::HttpRequest;
 use crate::http::body::{HttpBody, request_of, response_of};
-use crate::http::response::ResponseHead;
+use crate::http::response::HttpResponse;
 use format_http::bodies::framing::{BodyLength, Message, body_length};
 use format_http::bodies::refusals::{Reason, request_framing};
 use format_http::heads::fields::Fields;
@@ -132,7 +132,7 @@ fn remains<'i, F: Fields<'i>, E: Copy + Drop>(
 }
 
 /// Returns the request line at the positions of a head.
-fn request_line<'i>(bytes: &'i [u8], head: &Head) -> RequestLine<'i>
+fn request_line<'i>(bytes: &'i [u8], head: &HttpRequest) -> RequestLine<'i>
     ensures { request result ≡ line_at bytes.now head.now }
 {
     RequestLine {
@@ -172,7 +172,7 @@ fn request_line<'i>(bytes: &'i [u8], head: &Head) -> RequestLine<'i>
 pub extern "C" fn exported_http_request_framing(
     bytes: &[u8],
     fields: &[Field],
-    head: &Head,
+    head: &HttpRequest,
     out: &mut HttpFraming,
 ) -> u32
     ensures head { (shows : ShowsHead bytes.now (places_of head.now)
@@ -225,7 +225,7 @@ pub extern "C" fn exported_http_response_framing(
     method: &[u8],
     bytes: &[u8],
     fields: &[Field],
-    head: &ResponseHead,
+    head: &HttpResponse,
     out: &mut HttpFraming,
 ) -> u32
     ensures head { (shows : ShowsResponse bytes.now (response_of head.now)

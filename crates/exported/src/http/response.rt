@@ -18,7 +18,7 @@ use format_http_places::response::read_response_head_into;
 /// The numbers and the places of the parts of the head of a response.
 #[repr(C)]
 #[derive(Clone, Copy, Drop)]
-pub struct ResponseHead {
+pub struct HttpResponse {
     /// The span of the reason phrase. If it is empty, the span is at the end of its line.
     pub reason: Span,
     /// How many fields there are.
@@ -38,7 +38,7 @@ pub struct ResponseHead {
 }
 
 /// Returns an empty head with a number of fields, and the offset and the number of an error.
-fn none(fields: usize, place: usize, error: u32) -> ResponseHead
+fn none(fields: usize, place: usize, error: u32) -> HttpResponse
     ensures fields { result.fields ≡ fields }
     ensures place { (result.error_offset ≡ place) × (result.error ≡ error) }
     ensures parts { HasNoResponseParts result }
@@ -47,7 +47,7 @@ fn none(fields: usize, place: usize, error: u32) -> ResponseHead
         offset: 0,
         length: 0,
     };
-    ResponseHead {
+    HttpResponse {
         reason: nowhere,
         fields,
         length: 0,
@@ -60,11 +60,11 @@ fn none(fields: usize, place: usize, error: u32) -> ResponseHead
 }
 
 /// A head that was found.
-fn head_of(found: places::ResponseHead) -> ResponseHead
+fn head_of(found: places::ResponseHead) -> HttpResponse
     ensures places { response_of result ≡ found }
     ensures place { (result.error_offset ≡ 0) × (result.error ≡ 0) }
 {
-    ResponseHead {
+    HttpResponse {
         reason: found.reason,
         fields: found.fields,
         length: found.length,
@@ -107,7 +107,7 @@ fn head_of(found: places::ResponseHead) -> ResponseHead
 pub extern "C" fn exported_http_response_head(
     bytes: &[u8],
     fields: &mut [Field],
-    out: &mut ResponseHead,
+    out: &mut HttpResponse,
 ) -> u32
     ensures head { result ≡ done
         → ShowsResponse bytes.now (response_of out.new) (take out.new.fields fields.new) }
@@ -171,7 +171,7 @@ pub extern "C" fn exported_http_response_head(
 pub extern "C" fn exported_http_response_head_partial(
     bytes: &[u8],
     fields: &mut [Field],
-    out: &mut ResponseHead,
+    out: &mut HttpResponse,
 ) -> u32
     ensures head { result ≡ done
         → ShowsResponse bytes.now (response_of out.new) (take out.new.fields fields.new) }

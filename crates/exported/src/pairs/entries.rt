@@ -4,7 +4,7 @@ ghost use Rattle.std.specs.Prelude.{◌≡◌, ◌<◌, ◌+◌, ◌++◌, ◌^�
 ghost use Rattle.readers.specs.Sections.{pair_text, section_text};
 ghost use Rattle.exported.specs.Pairs.{AreEntries, entries_of, text_of};
 
-use crate::pairs::Entry;
+use crate::pairs::PairEntry;
 use crate::span::Span;
 use readers::ini::Section;
 use std::alloc::Global;
@@ -69,7 +69,7 @@ pub fn copy_entries(found: &[(&str, &str)], text: &mut [u8])
 }
 
 /// Writes the spans of the entries in the concatenation of their bytes.
-pub fn place_entries(found: &[(&str, &str)], entries: &mut [Entry])
+pub fn place_entries(found: &[(&str, &str)], entries: &mut [PairEntry])
     requires bytes { length (text_of (map pair_text found.now)) < 2 ^ 63 }
     requires room { length entries.old ≡ length found.now }
     ensures { AreEntries (text_of (map pair_text found.now)) entries.new
@@ -79,7 +79,7 @@ pub fn place_entries(found: &[(&str, &str)], entries: &mut [Entry])
     for number in 0..found.len() {
         let (key, value) = found[number];
         let middle = offset + key.len();
-        entries[number] = Entry {
+        entries[number] = PairEntry {
             key: Span {
                 offset,
                 length: key.len(),

@@ -10,7 +10,7 @@ ghost use Rattle.exported.specs.Span.{EndsWith, StandsAt};
 use crate::resp::{
     NONE, RESP_ARRAY, RESP_ATTRIBUTES, RESP_BIG_NUMBER, RESP_BOOLEAN, RESP_BULK, RESP_BULK_ERROR,
     RESP_DOUBLE, RESP_ERROR, RESP_INTEGER, RESP_MAP, RESP_NULL, RESP_NULL_ARRAY, RESP_NULL_BULK,
-    RESP_PUSH, RESP_SET, RESP_SIMPLE, RESP_VERBATIM, Reply,
+    RESP_PUSH, RESP_SET, RESP_SIMPLE, RESP_VERBATIM, RespValue,
 };
 use crate::span::{Span, first_of};
 use format_resp::reply;
@@ -40,11 +40,11 @@ fn of_boolean(boolean: bool) -> i64
 }
 
 /// Describes a reply that has only a number.
-fn number_at(kind: u32, number: i64, whole: usize) -> Reply
+fn number_at(kind: u32, number: i64, whole: usize) -> RespValue
     ensures number { HasNumber kind number result }
     ensures length { (result.length ≡ whole) × (result.error_offset ≡ 0) }
 {
-    Reply {
+    RespValue {
         kind,
         number,
         length: whole,
@@ -53,12 +53,12 @@ fn number_at(kind: u32, number: i64, whole: usize) -> Reply
 }
 
 /// Describes a reply whose text, of `count` bytes, follows its first byte.
-fn line_at(kind: u32, count: usize, whole: usize) -> Reply
+fn line_at(kind: u32, count: usize, whole: usize) -> RespValue
     ensures text { (input text rest : List ℕ) → IsLine input text rest → length text ≡ count
         → HasText kind input rest text result }
     ensures length { (result.length ≡ whole) × (result.error_offset ≡ 0) }
 {
-    Reply {
+    RespValue {
         kind,
         span: Span {
             offset: 1,
@@ -70,12 +70,12 @@ fn line_at(kind: u32, count: usize, whole: usize) -> Reply
 }
 
 /// Describes a reply whose text, of `count` bytes, follows its first line.
-fn string_at(kind: u32, bytes: &[u8], count: usize, whole: usize) -> Reply
+fn string_at(kind: u32, bytes: &[u8], count: usize, whole: usize) -> RespValue
     ensures text { (text rest : List ℕ) → IsBehindFeed bytes.now (text ++ (line_end ++ rest))
         → length text ≡ count → HasText kind bytes.now rest text result }
     ensures length { (result.length ≡ whole) × (result.error_offset ≡ 0) }
 {
-    Reply {
+    RespValue {
         kind,
         span: first_of(bytes, skip_line(bytes), count),
         length: whole,
@@ -84,7 +84,7 @@ fn string_at(kind: u32, bytes: &[u8], count: usize, whole: usize) -> Reply
 }
 
 /// Describes a reply of `count` elements, which follow its first line. `left` bytes follow them.
-fn list_at(kind: u32, bytes: &[u8], count: usize, left: usize) -> Reply
+fn list_at(kind: u32, bytes: &[u8], count: usize, left: usize) -> RespValue
     ensures list { (elements rest : List ℕ) → IsBehindFeed bytes.now (elements ++ rest)
         → length rest ≡ left
         → HasFields result kind (pos 0) count × StandsAt bytes.now result.span elements rest }
@@ -92,7 +92,7 @@ fn list_at(kind: u32, bytes: &[u8], count: usize, left: usize) -> Reply
         × (result.error_offset ≡ 0) }
 {
     let behind = skip_line(bytes);
-    Reply {
+    RespValue {
         kind,
         elements: count,
         span: first_of(bytes, behind, behind.len().saturating_sub(left)),
@@ -102,7 +102,7 @@ fn list_at(kind: u32, bytes: &[u8], count: usize, left: usize) -> Reply
 }
 
 /// Returns the description of a reply at the start of `bytes`, after which `left` bytes remain.
-pub fn reply_at(bytes: &[u8], found: &reply::Reply<&[u8], Global>, left: usize) -> Reply
+pub fn reply_at(bytes: &[u8], found: &reply::Reply<&[u8], Global>, left: usize) -> RespValue
     ensures shown { (protocol : Protocol) (level : ℕ) (rest : List ℕ)
         → IsReply protocol level bytes.now found.now rest → length rest ≡ left
         → IsShown protocol level bytes.now rest found.now result }

@@ -4,8 +4,7 @@ use Rattle.format_toml.proofs.parts.read_joined.Goals as goal
 
 pub returns-in-Ok : goal.returns-in-Ok
 returns-in-Ok g c =
-    reads_kept (gathered_keeps _) c.exact.ensures
-    (reads_by c.in-Ok.ensures.reads (rw (
+    reads_kept (gathered_keeps _) c.exact.ensures (reads_by c.in-Ok.ensures.reads (rw (
       c.separated.ensures.occurrences,
       c.separated.ensures.parser,
       c.separated.ensures.separator,
