@@ -19,7 +19,7 @@
  *
  * Memory and stack of calls are measured on inputs made to be expensive
  * (bindings/tests/cost.c), not proved. Memory is the maximum held at once, two blocks while
- * one grows. At a depth of 512 a call used up to 107 KiB of stack, for TOML 508 KiB, and a
+ * one grows. At a depth of 512 a call used up to 114 KiB of stack, for TOML 508 KiB, and a
  * call without nesting 5 KiB; the required sizes include a margin. With less stack, a guard
  * page ends the program.
  */
