@@ -71,7 +71,7 @@ fn none(fields: usize, place: usize, error: u32) -> HttpRequest
 }
 
 /// A head that was found.
-fn head_of(found: places::HttpRequest) -> HttpRequest
+fn head_of(found: places::Head) -> HttpRequest
     ensures places { places_of result ≡ found }
     ensures place { (result.error_offset ≡ 0) × (result.error ≡ 0) }
 {

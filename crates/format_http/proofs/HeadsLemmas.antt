@@ -1,7 +1,6 @@
 pub mod FieldRead
 pub mod Fields
 pub mod HeadRead
-pub mod Hosts
 pub mod Named
 pub mod Parts
 pub mod Passed

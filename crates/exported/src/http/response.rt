@@ -60,7 +60,7 @@ fn none(fields: usize, place: usize, error: u32) -> HttpResponse
 }
 
 /// A head that was found.
-fn head_of(found: places::HttpResponse) -> HttpResponse
+fn head_of(found: places::ResponseHead) -> HttpResponse
     ensures places { response_of result ≡ found }
     ensures place { (result.error_offset ≡ 0) × (result.error ≡ 0) }
 {
