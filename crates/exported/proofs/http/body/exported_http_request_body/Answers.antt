@@ -6,8 +6,8 @@ returns-in-Ok-clause-body c _ = record {
   head = c.in-Ok.head;
   rest = c.read_head.new.input.now;
   stands = c.in-Ok.ensures.head.stands refl;
-  framing = c.request_framing.result;
-  is_framing = c.request_framing.ensures;
+  framing = c.request_framing-framing.result;
+  is_framing = c.request_framing-framing.ensures;
   writes = c.request_of-code.ensures;
 }
 
@@ -16,7 +16,7 @@ returns-in-Ok-clause-refused c _ = inr (record {
   head = c.in-Ok.head;
   rest = c.read_head.new.input.now;
   stands = c.in-Ok.ensures.head.stands refl;
-  framing = c.request_framing.result;
-  is_framing = c.request_framing.ensures;
+  framing = c.request_framing-framing.result;
+  is_framing = c.request_framing-framing.ensures;
   writes = c.request_of-code.ensures;
 })
