@@ -64,7 +64,7 @@ static const struct {
     size_t count;
 } missing[] = {
     {"A", 1}, {"aa", 1}, {"b.e", 1}, {"b\0", 2}, {"b\0c\0", 3}, {"b\0c\0d", 3}, {"h\0i", 2}, {"a\0a", 2}, {"b\0e\0f\0g\0g", 5},
-    {"", 2}, {"e", 1},
+    {"\0", 2}, {"e", 1},
 };
 
 static const struct {

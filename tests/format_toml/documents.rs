@@ -17,7 +17,7 @@ const ROWS: &[(usize, &str, &str)] = &[
         0,
         "# This is a full-line comment\nkey = \"value\"  # This is a comment at the end of a line\n\
          another = \"# This is not a comment\"",
-        "|key='value'|another='# This is not a comment'|",
+        "key='value'|another='# This is not a comment'|",
     ),
     // Key/Value Pair
     (0, "key = \"value\"", "key='value'|"),

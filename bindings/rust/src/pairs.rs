@@ -14,7 +14,7 @@
 //! }
 //! # Ok::<(), pergidau::Error>(())
 //! ```
-pub use crate::exports::PairEntry;
+pub use crate::exports::PairEntry as Entry;
 
 use crate::{at, exports, Error, RequiredSize, NOTHING};
 #[cfg(feature = "alloc")]
