@@ -32,7 +32,8 @@ use Rattle.exported.specs.declared.http.response.HttpResponse.{HttpResponse}
 pub host_more : (bytes : List ℕ) (before : List Field) (field : Field) → HasNoHost bytes before
     → (IsHostAt bytes field → ⊥) → HasNoHost bytes (before ++ field ∷ [])
 host_more bytes [] field none not = (not, tt)
-host_more bytes (f ∷ before) field (no, none) not = (no, host_more bytes before field none not)
+host_more bytes (f ∷ before) field (other, none) not =
+    (other, host_more bytes before field none not)
 
 pub none_after : (bytes : List ℕ) (before left : List Field) → length left ≡ 0
     → HasNoHost bytes before → HasNoHost bytes (before ++ left)
@@ -43,13 +44,13 @@ none_after bytes before (x ∷ left) empty none = absurd (omega (arith, empty))
 -- ---- how many Host fields there are
 
 module _ (bytes : List ℕ) where
-  pairs : List Field → List Pair
+  abbrev pairs : List Field → List Pair
   pairs = map (pair_at bytes)
 
   no_hosts : (fields : List Field) (n : ℕ) → HasNoHost bytes fields → AreHosts (pairs fields) n
       → n ≡ 0
   no_hosts [] n none are = are
-  no_hosts (f ∷ fields) n none (inl (named, x)) = absurd (none.0 named)
+  no_hosts (f ∷ fields) n none (inl (named, more, is, x)) = absurd (none.0 named)
   no_hosts (f ∷ fields) n none (inr (not, x)) = no_hosts fields n none.1 x
 
   one_host : (before : List Field) (host : Field) (behind : List Field) (n : ℕ)
@@ -59,7 +60,7 @@ module _ (bytes : List ℕ) where
       omega (arith, is, no_hosts behind more others x)
   one_host [] host behind n none others (inr (not, x)) =
       omega (arith, no_hosts behind n others x)
-  one_host (f ∷ before) host behind n none others (inl (named, x)) = absurd (none.0 named)
+  one_host (f ∷ before) host behind n none others (inl (named, more, is, x)) = absurd (none.0 named)
   one_host (f ∷ before) host behind n none others (inr (not, x)) =
       one_host before host behind n none.1 others x
 
@@ -79,25 +80,36 @@ module _ (bytes : List ℕ) where
 -- ---- numbers of errors
 
 no_error : (length : BodyLength) (out : HttpBody) → IsWritten length out → out.error ≡ 0
-no_error lengths.NoBody out (kind, error, length) = error
-no_error lengths.Chunked out (kind, error, length) = error
-no_error (lengths.Length n) out (kind, error, length) = error
-no_error lengths.UntilClose out (kind, error, length) = error
-no_error lengths.Tunnel out (kind, error, length) = error
+no_error lengths.NoBody out (kind, error, bytes) = error
+no_error lengths.Chunked out (kind, error, bytes) = error
+no_error (lengths.Length n) out (kind, error, bytes) = error
+no_error lengths.UntilClose out (kind, error, bytes) = error
+no_error lengths.Tunnel out (kind, error, bytes) = error
 
 -- The number is of no error of the target or the Host fields that has a position.
 abbrev IsOther : ℕ → Type 0
 IsOther n = (n ≡ 12 → ⊥) × (n ≡ 3 → ⊥) × (n ≡ 11 → ⊥)
 
+between : (n : ℕ) → 3 < n → n < 11 → IsOther n
+between n more less =
+    ((λ e. omega (arith, less, e)), (λ e. omega (arith, more, e)), (λ e. omega (arith, less, e)))
+
+none_is_other : IsOther 0
+none_is_other = ((λ e. omega (arith, e)), (λ e. omega (arith, e)), (λ e. omega (arith, e)))
+
+missing_is_other : IsOther 2
+missing_is_other = ((λ e. omega (arith, e)), (λ e. omega (arith, e)), (λ e. omega (arith, e)))
+
 others : (why : FramingError) → IsOther (fault_number why)
-others fault.CodingBeforeVersion = ((λ e. omega e), (λ e. omega e), (λ e. omega e))
-others fault.LengthBesideCoding = ((λ e. omega e), (λ e. omega e), (λ e. omega e))
-others fault.ChunkedNotLast = ((λ e. omega e), (λ e. omega e), (λ e. omega e))
-others fault.NotChunked = ((λ e. omega e), (λ e. omega e), (λ e. omega e))
-others fault.LengthsDiffer = ((λ e. omega e), (λ e. omega e), (λ e. omega e))
-others fault.LengthIsNoNumber = ((λ e. omega e), (λ e. omega e), (λ e. omega e))
-others fault.LengthTooLarge = ((λ e. omega e), (λ e. omega e), (λ e. omega e))
-others fault.InvalidCoding = ((λ e. omega e), (λ e. omega e), (λ e. omega e))
+others fault.CodingBeforeVersion = between 4 (omega arith) (omega arith)
+others fault.LengthBesideCoding = between 5 (omega arith) (omega arith)
+others fault.ChunkedNotLast = between 6 (omega arith) (omega arith)
+others fault.NotChunked = between 7 (omega arith) (omega arith)
+others fault.LengthsDiffer = between 8 (omega arith) (omega arith)
+others fault.LengthIsNoNumber = between 9 (omega arith) (omega arith)
+others fault.LengthTooLarge = between 10 (omega arith) (omega arith)
+others fault.InvalidCoding =
+    ((λ e. omega (arith, e)), (λ e. omega (arith, e)), (λ e. omega (arith, e)))
 
 -- ---- what is rejected
 
@@ -154,26 +166,24 @@ pub rejected_of : (bytes : List ℕ) (fields : List Field) (target place : Span)
     (found : Result BodyLength Reason) (code : ℕ) (out : HttpBody)
     → IsFraming line (map (pair_at bytes) fields) found → WritesRequest found code out
     → IsPlaceOf bytes fields target found place → IsRejectedAt bytes fields target out.error place
-rejected_of bytes fields target place line (Ok length) code out framing (done, written) is =
+rejected_of bytes fields target place line (Ok n) code out framing (done, written) is =
     at_nowhere bytes fields target place out.error
-    (subst IsOther (sym (no_error length out written))
-    ((λ e. omega e), (λ e. omega e), (λ e. omega e))) is
+    (subst IsOther (sym (no_error n out written)) none_is_other) is
 rejected_of bytes fields target place line (Err Target) code out framing
-    (invalid, kind, error, none) is =
+    (invalid, (kind, error, none)) is =
     at_target_only bytes fields target place out.error error is
 rejected_of bytes fields target place line (Err (Host Missing)) code out framing
-    (invalid, kind, error, none) is =
-    at_nowhere bytes fields target place out.error (subst IsOther (sym error)
-    ((λ e. omega e), (λ e. omega e), (λ e. omega e))) is
-rejected_of bytes fields target place line (Err (Host Many)) code out (has, hosts, are, many)
-    (invalid, kind, error, none) is =
+    (invalid, (kind, error, none)) is =
+    at_nowhere bytes fields target place out.error (subst IsOther (sym error) missing_is_other) is
+rejected_of bytes fields target place line (Err (Host Many)) code out (has, (hosts, are, many))
+    (invalid, (kind, error, none)) is =
     at_second_only bytes fields target place out.error error
     (second_is bytes fields place hosts many are is)
 rejected_of bytes fields target place line (Err (Host Invalid)) code out
-    (has, hosts, are, may, wrong) (invalid, kind, error, none) is =
+    (has, (hosts, are, (may, wrong))) (invalid, (kind, error, none)) is =
     at_value_only bytes fields target place out.error error (first_is bytes fields place wrong is)
 rejected_of bytes fields target place line (Err (Body why)) code out framing
-    (invalid, kind, error, none) is =
+    (invalid, (kind, error, none)) is =
     at_nowhere bytes fields target place out.error (subst IsOther (sym error) (others why)) is
 
 -- ---- the head at positions

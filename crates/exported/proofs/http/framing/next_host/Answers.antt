@@ -23,10 +23,10 @@ returns-then-eq_ignore_ascii_case c =
 pub passed-preserved : goal.passed-preserved
 passed-preserved c =
     let (before, splits, none) = c.passed.invariant in (
-      before ++ c.in-Some.field ∷ [],
+      before ++ c.in-Some.field.now ∷ [],
       splits ∙ ap (λ l. before ++ l) c.in-Some.ensures.cases.0
-          ∙ sym (append_assoc before (c.in-Some.field ∷ []) c.in-Some.more),
-      host_more c.args.bytes.now before c.in-Some.field none
+          ∙ sym (append_assoc before (c.in-Some.field.now ∷ []) c.in-Some.more.now),
+      host_more c.args.bytes.now before c.in-Some.field.now none
           (λ is. true_is_false (sym (c.if-eq_ignore_ascii_case.ensures.test.1
           (ap (λ l. map to_ascii_lowercase l) c.slice_at.ensures
           ∙ is ∙ sym (ap (λ l. map to_ascii_lowercase l) c.as_slice.ensures))))),

@@ -6,7 +6,7 @@ use Rattle.exported.proofs.http.framing.next_host.Given as goal
 
 abbrev pub invariant-passed : goal.invariant-passed
 invariant-passed l =
-    (before : List Field) × (l.fields.now ≡ before ++ l.left.now) × HasNoHost l.bytes.now before
+    (before : List Field) × (l.fields ≡ before ++ l.left) × HasNoHost l.bytes before
 
 abbrev pub decreases-passed : goal.decreases-passed
-decreases-passed l = length l.left.now
+decreases-passed l = length l.left
