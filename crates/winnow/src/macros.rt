@@ -15,11 +15,11 @@
 ///     y: u32,
 /// }
 ///
-/// fn point(input: &mut &str) -> ModalResult<Point> {
+/// fn read_point(input: &mut &str) -> ModalResult<Point> {
 ///     seq!(Point { _: '(', x: DecUint, _: ',', y: DecUint, _: ')' }).parse_next(input)
 /// }
 ///
-/// assert_eq!(rt; point(&mut "(1,2)"), Ok(Point { x: 1, y: 2 }));
+/// assert_eq!(rt; read_point(&mut "(1,2)"), Ok(Point { x: 1, y: 2 }));
 /// let pair: ModalResult<(u32, u32)> = seq!(DecUint, _: '-', DecUint).parse_next(&mut "3-4");
 /// assert_eq!(rt; pair, Ok((3, 4)));
 /// ```
